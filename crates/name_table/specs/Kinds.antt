@@ -1,0 +1,18 @@
+-- Kinds of entries: 1 unique name, 2 shared name (body: a name), 3 A (4 octets), 4 AAAA (16), 5 PTR (a name).
+use Prim.Native.Nat.{ℕ}
+use mathlib.Core.Bool.{cond}
+use lib.Dec.{eqb}
+use Rattle.octets.specs.Bounds.{usedBy4, usedBy6}
+use Rattle.name_table.specs.Bounds.{typeA, typePTR, typeAAAA}
+use Rattle.name_table.specs.declared.Kind.{Kind}
+use Rattle.name_table.specs.declared.Kind.the-variants.{Unique, Shared, Octets, Target, Unknown}
+
+-- the form of the body, and a record's type
+unfoldable pub kindOf : ℕ → Kind
+kindOf k =
+    cond (eqb k 1) Unique
+    (cond (eqb k 2) Shared
+    (cond (eqb k 3) (Octets typeA usedBy4)
+    (cond (eqb k 4) (Octets typeAAAA usedBy6)
+    (cond (eqb k 5) (Target typePTR)
+    Unknown))))

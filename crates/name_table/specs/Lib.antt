@@ -1,0 +1,6 @@
+pub mod Bounds
+pub mod Kinds
+pub mod Check
+pub mod Entries
+pub mod Records
+pub mod Shown

@@ -1,0 +1,7 @@
+pub mod Lists
+pub mod NameWalk
+pub mod RecordNameWalk
+pub mod Expansion
+pub mod Names
+pub mod Folding
+pub mod Readings

@@ -1,0 +1,295 @@
+-- Laws of the walk over a record's name: a turn for each thing that it can meet, and its fuel.
+use Prim.Native.Nat.{ℕ, suc, zero, _+_, _-_, _<_, _≤_}
+use mathlib.Core.Path.{_≡_, refl, sym, ap, _∙_, subst}
+use mathlib.Core.List.{List, [], _∷_, _++_}
+use native.Mathlib.Omega.{arith}
+use lib.Dec.{ltb, leb, eqb}
+use lib.ListN.{length, length-append}
+use borrow.Author.Tests.{eq-eqb, ne-eqb, le-ltb, le-leb, lt-leb, eqb-true, eqb-false, ltb-false, leb-true, leb-false}
+use Rattle.octets.specs.Octets.{octetAt, partOf}
+use Rattle.octets.proofs.Tests.{split}
+use Rattle.octets.proofs.Octets.{length-part}
+use Rattle.names.specs.Bounds.{longestLabel, longestName, mostPointers, leastTarget, pointerMark}
+use Rattle.names.specs.declared.Walk.{Walk}
+use Rattle.names.specs.declared.Turn.{Turn}
+use Rattle.names.specs.declared.Turn.the-variants.{More, End, Wrong}
+use Rattle.names.specs.declared.RecordName.{RecordName}
+use Rattle.names.specs.declared.RecordNameRead.{RecordNameRead}
+use Rattle.names.specs.declared.RecordNameRead.the-variants.{Good, Bad}
+use Rattle.names.specs.RecordNameWalk.{target, goesOn, atRoot, pastLabel, followed, turnAt, onTurn, recordNameFrom, walkAt, turns, recordNameAt, onExpand, expandedFrom}
+
+-- what a turn meets
+pub data Met (s : List ℕ) (w : Walk) : Type 0 where
+  root : w .at < length s → octetAt s (w .at) ≡ 0 → Met s w
+  one : w .at < length s → 1 ≤ octetAt s (w .at) → octetAt s (w .at) ≤ longestLabel → w .len + 1 + octetAt s (w .at) < longestName → Met s w
+  jump : w .at + 1 < length s → pointerMark ≤ octetAt s (w .at) → leastTarget ≤ target s (w .at) → target s (w .at) < w .run → w .pointers < mostPointers → Met s w
+  wrong : turnAt s w ≡ Wrong → Met s w
+
+pub met : (s : List ℕ) (w : Walk) → Met s w
+unfolding turnAt
+met s w =
+    split (leb (length s) (w .at)) (λ e. wrong (rw e)) λ e.
+    let h : w .at < length s = leb-false _ _ e in
+    split (eqb (octetAt s (w .at)) 0) (λ f. root h (eqb-true _ _ f)) λ f.
+    let z : octetAt s (w .at) ≡ 0 → ⊥ = eqb-false _ _ f in
+    split
+    (leb (octetAt s (w .at)) longestLabel)
+    (λ g.
+    split
+    (leb longestName (w .len + 1 + octetAt s (w .at)))
+    (λ i. wrong (rw (e, f, g, i)))
+    (λ i. one h (omega arith) (leb-true _ _ g) (leb-false _ _ i))) λ g.
+    split (ltb (octetAt s (w .at)) pointerMark) (λ i. wrong (rw (e, f, g, i))) λ i.
+    split (leb (length s) (w .at + 1)) (λ j. wrong (rw (e, f, g, i, j))) λ j.
+    split (ltb (target s (w .at)) leastTarget) (λ k. wrong (rw (e, f, g, i, j, k))) λ k.
+    split (leb (w .run) (target s (w .at))) (λ l. wrong (rw (e, f, g, i, j, k, l))) λ l.
+    split (leb mostPointers (w .pointers)) (λ m. wrong (rw (e, f, g, i, j, k, l, m))) λ m.
+    jump (leb-false _ _ j) (ltb-false _ _ i) (ltb-false _ _ k) (leb-false _ _ l) (leb-false _ _ m)
+
+-- the turn at each
+module _ (s : List ℕ) (w : Walk) where
+  pub turn-root : w .at < length s → octetAt s (w .at) ≡ 0 → turnAt s w ≡ End (atRoot w)
+  unfolding turnAt
+  turn-root h g = rw (lt-leb _ _ h, eq-eqb _ _ g)
+
+  pub turn-label : w .at < length s → 1 ≤ octetAt s (w .at) → octetAt s (w .at) ≤ longestLabel
+      → w .len + 1 + octetAt s (w .at) < longestName → turnAt s w ≡ More (pastLabel w (octetAt s (w .at)))
+  unfolding turnAt
+  turn-label h g i j =
+      let z : octetAt s (w .at) ≡ 0 → ⊥ = omega arith in
+      rw (lt-leb _ _ h, ne-eqb _ _ z, le-leb _ _ i, lt-leb _ _ j)
+
+  pub turn-jump : w .at + 1 < length s → pointerMark ≤ octetAt s (w .at) → leastTarget ≤ target s (w .at)
+      → target s (w .at) < w .run → w .pointers < mostPointers → turnAt s w ≡ More (followed w (target s (w .at)))
+  unfolding turnAt
+  turn-jump h g i j k =
+      let z : octetAt s (w .at) ≡ 0 → ⊥ = omega arith in
+      let h0 : w .at < length s = omega arith in
+      let y : longestLabel < octetAt s (w .at) = omega arith in
+      rw (lt-leb _ _ h0, ne-eqb _ _ z, lt-leb _ _ y, le-ltb _ _ g, lt-leb _ _ h, le-ltb _ _ i, lt-leb _ _ j, lt-leb _ _ k)
+
+-- A walk within the bounds. What is left of it falls with each turn: octets of the name, and pointers.
+pub record Within (w : Walk) : Type 0 where
+  pub short : w .len < longestName
+  pub few : w .pointers ≤ mostPointers
+
+abbrev pub left : Walk → ℕ
+left w = (longestName - w .len) + (mostPointers - w .pointers)
+
+pub within-start : (at : ℕ) → Within (walkAt at)
+within-start at = record { short = omega arith; few = omega arith }
+
+-- from w a turn goes on to v
+pub record Onward (s : List ℕ) (w v : Walk) : Type 0 where
+  pub inside : w .at < length s
+  pub longer : w .len ≤ v .len
+  pub within : Within v
+  pub nearer : left v < left w
+
+pub onward : (s : List ℕ) (w v : Walk) → Within w → turnAt s w ≡ More v → Onward s w v
+onward s w v b e = go (met s w)
+  where
+    go : Met s w → Onward s w v
+    go (wrong q) = absurd (let z : _≡_ {A = ℕ} 0 1 = cc in omega arith)
+    go (root h g) = absurd (let z : _≡_ {A = ℕ} 0 1 = cc (turn-root s w h g) in omega arith)
+    go (one h g i j) =
+        let f : pastLabel w (octetAt s (w .at)) ≡ v = cc (turn-label s w h g i j) in
+        subst
+        (λ (u : Walk). Onward s w u)
+        f
+        (record { inside = h; longer = omega arith; within = record { short = j; few = b .few }; nearer = omega (arith, b .short) })
+    go (jump h g i j m) =
+        let f : followed w (target s (w .at)) ≡ v = cc (turn-jump s w h g i j m) in
+        subst
+        (λ (u : Walk). Onward s w u)
+        f
+        (record { inside = omega arith; longer = omega arith; within = record { short = b .short; few = omega arith }; nearer = omega arith })
+
+-- Fuel for what is left is enough: any more gives the same.
+pub walk-fuel : (j k : ℕ) (s : List ℕ) (w : Walk) → Within w → left w ≤ j → left w ≤ k
+    → recordNameFrom j s w ≡ recordNameFrom k s w
+unfolding recordNameFrom
+walk-fuel zero k s w b x y = absurd (omega (arith, b .short))
+walk-fuel (suc j) zero s w b x y = absurd (omega (arith, b .short))
+walk-fuel (suc j) (suc k) s w b x y = go (turnAt s w) refl (λ v. walk-fuel j k s v)
+  where
+    go : (t : Turn)
+        → turnAt s w ≡ t
+        → ((v : Walk) → Within v → left v ≤ j → left v ≤ k → recordNameFrom j s v ≡ recordNameFrom k s v)
+        → onTurn t (recordNameFrom j s) ≡ onTurn t (recordNameFrom k s)
+    go (More v) e r =
+        let o = onward s w v b e in
+        let n : left v < left w = o .nearer in
+        r v (o .within) (omega arith) (omega arith)
+    go (End u) e r = refl
+    go Wrong e r = refl
+
+pub expand-fuel : (j k : ℕ) (s : List ℕ) (w : Walk) → Within w → left w ≤ j → left w ≤ k
+    → expandedFrom j s w ≡ expandedFrom k s w
+unfolding expandedFrom
+expand-fuel zero k s w b x y = absurd (omega (arith, b .short))
+expand-fuel (suc j) zero s w b x y = absurd (omega (arith, b .short))
+expand-fuel (suc j) (suc k) s w b x y = go (turnAt s w) refl (λ v. expand-fuel j k s v)
+  where
+    go : (t : Turn)
+        → turnAt s w ≡ t
+        → ((v : Walk) → Within v → left v ≤ j → left v ≤ k → expandedFrom j s v ≡ expandedFrom k s v)
+        → onExpand s w t (expandedFrom j s) ≡ onExpand s w t (expandedFrom k s)
+    go (More v) e r =
+        let o = onward s w v b e in
+        let n : left v < left w = o .nearer in
+        ap (λ (l : List ℕ). partOf s (w .at) (w .at + (v .len - w .len)) ++ l) (r v (o .within) (omega arith) (omega arith))
+    go (End u) e r = refl
+    go Wrong e r = refl
+
+-- the two walks from w on, with just enough fuel
+abbrev pub recordNameHere : List ℕ → Walk → RecordNameRead
+recordNameHere s w = recordNameFrom (left w) s w
+
+abbrev pub expandedHere : List ℕ → Walk → List ℕ
+expandedHere s w = expandedFrom (left w) s w
+
+-- where they start
+pub walk-start : (s : List ℕ) (at : ℕ) (w : Walk) → w ≡ walkAt at → Within w × (recordNameAt s at ≡ recordNameHere s w)
+walk-start s at w e =
+    subst (λ (v : Walk). Within v × (recordNameAt s at ≡ recordNameHere s v)) (sym e) (within-start at, refl)
+
+pub expand-start : (s : List ℕ) (at : ℕ) (w : Walk) → w ≡ walkAt at → expandedFrom turns s (walkAt at) ≡ expandedHere s w
+expand-start s at w e = subst (λ (v : Walk). expandedFrom turns s (walkAt at) ≡ expandedHere s v) (sym e) refl
+
+-- their turns
+module _ (s : List ℕ) (w : Walk) (b : Within w) where
+  turned : recordNameHere s w ≡ onTurn (turnAt s w) (recordNameFrom (left w - 1) s)
+  unfolding recordNameFrom
+  turned = go (left w - 1) (omega (arith, b .short))
+    where
+      go : (m : ℕ) → left w ≡ suc m → recordNameFrom (left w) s w ≡ onTurn (turnAt s w) (recordNameFrom m s)
+      go m e = rw e
+
+  expanded : expandedHere s w ≡ onExpand s w (turnAt s w) (expandedFrom (left w - 1) s)
+  unfolding expandedFrom
+  expanded = go (left w - 1) (omega (arith, b .short))
+    where
+      go : (m : ℕ) → left w ≡ suc m → expandedFrom (left w) s w ≡ onExpand s w (turnAt s w) (expandedFrom m s)
+      go m e = rw e
+
+  pub walk-more : (v : Walk) → turnAt s w ≡ More v → recordNameHere s w ≡ recordNameHere s v
+  walk-more v e =
+      let o = onward s w v b e in
+      let n : left v < left w = o .nearer in
+      turned ∙ rw e (walk-fuel _ _ s v (o .within) (omega arith) (omega arith))
+
+  pub walk-end : (r : RecordName) → turnAt s w ≡ End r → recordNameHere s w ≡ Good r
+  walk-end r e = turned ∙ rw e
+
+  pub walk-wrong : turnAt s w ≡ Wrong → recordNameHere s w ≡ Bad
+  walk-wrong e = turned ∙ rw e
+
+  pub expand-more : (v : Walk) → turnAt s w ≡ More v
+      → expandedHere s w ≡ partOf s (w .at) (w .at + (v .len - w .len)) ++ expandedHere s v
+  expand-more v e =
+      let o = onward s w v b e in
+      let n : left v < left w = o .nearer in
+      expanded
+      ∙ rw e (ap (λ (l : List ℕ). partOf s (w .at) (w .at + (v .len - w .len)) ++ l) (expand-fuel _ _ s v (o .within) (omega arith) (omega arith)))
+
+  pub expand-end : (r : RecordName) → turnAt s w ≡ End r → expandedHere s w ≡ 0 ∷ []
+  expand-end r e = expanded ∙ rw e
+
+  pub expand-wrong : turnAt s w ≡ Wrong → expandedHere s w ≡ []
+  expand-wrong e = expanded ∙ rw e
+
+-- What a good end says of a walk: it stands inside s, and so does the offset after the name; the bounds are kept; the octets of the
+-- expanded name are as many as it tells.
+pub record Ended (s : List ℕ) (w : Walk) (xs : List ℕ) (r : RecordName) : Type 0 where
+  pub inside : w .at < length s
+  pub next-inside : (w .pointers ≡ 0 → ⊥) → r .next ≡ w .next
+  pub first-next : w .pointers ≡ 0 → r .next ≤ length s
+  pub short : r .len ≤ longestName
+  pub few : r .pointers ≤ mostPointers
+  pub length-is : r .len ≡ w .len + length xs
+
+goes-first : (w : Walk) (p : ℕ) → w .pointers ≡ 0 → goesOn w p ≡ p
+goes-first w p z = rw (eq-eqb _ _ z)
+
+goes-later : (w : Walk) (p : ℕ) → (w .pointers ≡ 0 → ⊥) → goesOn w p ≡ w .next
+goes-later w p z = rw (ne-eqb _ _ z)
+
+pub ended : (k : ℕ) (s : List ℕ) (w : Walk) (r : RecordName) → Within w → recordNameFrom k s w ≡ Good r
+    → Ended s w (expandedFrom k s w) r
+unfolding recordNameFrom expandedFrom
+ended zero s w r b e = absurd (let z : _≡_ {A = ℕ} 0 1 = cc in omega arith)
+ended (suc k) s w r b e = go (met s w) (λ v. ended k s v r)
+  where
+    go : Met s w
+        → ((v : Walk) → Within v → recordNameFrom k s v ≡ Good r → Ended s v (expandedFrom k s v) r)
+        → Ended s w (expandedFrom (suc k) s w) r
+    go (wrong q) i = absurd (let z : _≡_ {A = ℕ} 0 1 = cc in omega arith)
+    go (root h g) i =
+        let t = turn-root s w h g in
+        let f : Good (atRoot w) ≡ Good r = rw t at e in
+        let q : atRoot w ≡ r = cc in
+        rw t
+        (subst
+        (λ (x : RecordName). Ended s w (0 ∷ []) x)
+        q
+        (record {
+          inside = h;
+          next-inside = λ z. goes-later w (w .at + 1) z;
+          first-next = λ z. omega (arith, goes-first w (w .at + 1) z);
+          short = omega (arith, b .short);
+          few = b .few;
+          length-is = refl;
+        }))
+    go (one h g u v) i =
+        let t = turn-label s w h g u v in
+        let c : ℕ = octetAt s (w .at) in
+        let x = i (pastLabel w c) (record { short = v; few = b .few }) (rw t at e) in
+        let l : length (partOf s (w .at) (w .at + (w .len + 1 + c - w .len))) ≡ w .at + (w .len + 1 + c - w .len) - w .at =
+        length-part s (w .at) (w .at + (w .len + 1 + c - w .len)) (omega arith) (omega (arith, x .inside)) in
+        rw t
+        (record {
+          inside = h;
+          next-inside = x .next-inside;
+          first-next = x .first-next;
+          short = x .short;
+          few = x .few;
+          length-is = omega (arith, x .length-is, length-append (partOf s (w .at) (w .at + (w .len + 1 + c - w .len))) (expandedFrom k s (pastLabel w c)));
+        })
+    go (jump h g u v m) i =
+        let t = turn-jump s w h g u v m in
+        let to : ℕ = target s (w .at) in
+        let x = i (followed w to) (record { short = b .short; few = omega arith }) (rw t at e) in
+        let nz : w .pointers + 1 ≡ 0 → ⊥ = omega arith in
+        let n : r .next ≡ goesOn w (w .at + 2) = x .next-inside nz in
+        let l : length (partOf s (w .at) (w .at + (w .len - w .len))) ≡ w .at + (w .len - w .len) - w .at =
+        length-part s (w .at) (w .at + (w .len - w .len)) (omega arith) (omega arith) in
+        rw t
+        (record {
+          inside = omega arith;
+          next-inside = λ z. n ∙ goes-later w (w .at + 2) z;
+          first-next = λ z. omega (arith, n, goes-first w (w .at + 2) z);
+          short = x .short;
+          few = x .few;
+          length-is = omega (arith, x .length-is, length-append (partOf s (w .at) (w .at + (w .len - w .len))) (expandedFrom k s (followed w to)));
+        })
+
+-- A record's name that is read stands inside s with the offset after it, has at most 255 octets and 16 pointers, and is expanded to as
+-- many octets as it tells.
+pub record RecordNameFits (s : List ℕ) (at : ℕ) (r : RecordName) : Type 0 where
+  pub inside : at < length s
+  pub next-inside : r .next ≤ length s
+  pub short : r .len ≤ longestName
+  pub few : r .pointers ≤ mostPointers
+  pub length-is : length (expandedFrom turns s (walkAt at)) ≡ r .len
+
+pub record-name-fits : (s : List ℕ) (at : ℕ) (r : RecordName) → recordNameAt s at ≡ Good r → RecordNameFits s at r
+record-name-fits s at r e =
+    let f = ended turns s (walkAt at) r (within-start at) e in
+    record {
+      inside = f .inside;
+      next-inside = f .first-next refl;
+      short = f .short;
+      few = f .few;
+      length-is = omega (arith, f .length-is);
+    }

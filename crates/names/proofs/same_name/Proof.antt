@@ -1,0 +1,92 @@
+-- `names::same_name` meets its contract. The loop's invariant: the names are the same if no two octets so far differed and the rest is
+-- the same.
+use Prim.Native.Nat.{_-_, _<_, _≤_}
+use mathlib.Core.Path.{_≡_, refl, sym, _∙_}
+use mathlib.Core.Bool.{Bool, true, false, cond}
+use mathlib.Core.Logic.{⊎-elim}
+use native.Mathlib.Omega.{arith}
+use lib.ListN.{length, drop}
+use borrow.Author.Needs.{needs}
+use Rattle.octets.proofs.Tests.{cond-same}
+use Rattle.names.specs.Folding.{sameName}
+use Rattle.names.proofs.Folding.{unequal-lengths, same-on, same-off, same-end}
+use Rattle.names.proofs.same_name.Statement.{statement}
+use Rattle.names.proofs.same_name.Tie as tie
+
+abbrev Inv-loop : tie.InvT-loop
+Inv-loop a b same₀ i₀ same i =
+    (i ≤ length a) × (length a ≡ length b) × (sameName a b ≡ cond same (sameName (drop i a) (drop i b)) false)
+
+abbrev μ-loop : tie.MeasureT-loop
+μ-loop a b same₀ i₀ same i = length a - i
+
+returns : tie.Need-returns Inv-loop μ-loop
+returns c = sym (unequal-lengths _ _ (c .if1 .taken))
+
+loop-holds : tie.Need-loop-holds Inv-loop μ-loop
+loop-holds c = (search needs, c .if1 .left, refl)
+
+shared-slice-read-fold : tie.Need-shared-slice-read-fold Inv-loop μ-loop
+shared-slice-read-fold c = search needs
+
+fold-requires : tie.Need-fold-requires Inv-loop μ-loop
+fold-requires c κs = search needs
+
+shared-slice-read-fold-2 : tie.Need-shared-slice-read-fold-2 Inv-loop μ-loop
+shared-slice-read-fold-2 c = search needs
+
+fold-requires-2 : tie.Need-fold-requires-2 Inv-loop μ-loop
+fold-requires-2 c κs = search needs
+
+add-i : tie.Need-add-i Inv-loop μ-loop
+add-i c = search needs
+
+loop-less : tie.Need-loop-less Inv-loop μ-loop
+loop-less c = search needs
+
+loop-again : tie.Need-loop-again Inv-loop μ-loop
+loop-again c =
+    let l = c .before .before .before .before .before .before .loop in
+    let h = c .before .before .before .before .before .loop-test .taken in
+    let g = c .before .before .before .before .before .before .before .before .before .before .args in
+    let k : l .i < length (g .b .now) = omega (arith, l .inv .1) in
+    let x = c .before .before .before .fold .ensures in
+    let y = c .before .fold2 .ensures in (
+      search needs,
+      search needs,
+      ⊎-elim
+          (λ w.
+          let o = same-off (g .a .now) (g .b .now) (l .i) h k (λ e. w .0 .taken (x ∙ e ∙ sym y)) in
+          l .inv .2 ∙ rw (o, w .1) (cond-same (l .same) false))
+          (λ w.
+          let o = same-on (g .a .now) (g .b .now) (l .i) h k (sym x ∙ w .0 .left ∙ y) in
+          l .inv .2 ∙ rw (o, w .1))
+          (c .if2 .came),
+    )
+
+returns-2 : tie.Need-returns-2 Inv-loop μ-loop
+returns-2 c =
+    let l = c .before .loop in
+    let k : length (c .before .before .before .before .before .args .b .now) ≤ l .i = omega (arith, l .inv .1) in
+    sym (l .inv .2 ∙ rw (same-end _ _ _ (c .loop-test .left) k) (cond-true (l .same)))
+  where
+    cond-true : (s : Bool) → cond s true false ≡ s
+    cond-true true = refl
+    cond-true false = refl
+
+pub same-name-spec : {M : Type 1} → statement M
+same-name-spec =
+    tie.close
+    (tie.spec
+    Inv-loop
+    μ-loop
+    returns
+    loop-holds
+    shared-slice-read-fold
+    fold-requires
+    shared-slice-read-fold-2
+    fold-requires-2
+    add-i
+    loop-less
+    loop-again
+    returns-2)

@@ -1,0 +1,6 @@
+pub mod Bounds
+pub mod Names
+pub mod Folding
+pub mod Readings
+pub mod NameWalk
+pub mod RecordNameWalk

@@ -1,0 +1,266 @@
+// Domain names where they stand in a slice of octets.
+ghost use mathlib.Core.Path.{_≡_};
+ghost use Prim.Native.Nat.{_+_, _≤_, _<_};
+ghost use lib.ListN.{length};
+ghost use Rattle.octets.specs.Octets.{octetAt, put, splice};
+ghost use Rattle.names.specs.Bounds.{longestName, pointerMark};
+ghost use Rattle.names.specs.Folding.{folded, sameName};
+ghost use Rattle.names.specs.NameWalk.{nameAt};
+ghost use Rattle.names.specs.RecordNameWalk.{turnAt, pointerTurn, goesOn, walkAt, turns, recordNameAt, expandedFrom, expandedAt};
+
+// A name without pointers: its octets with the zero octet.
+pub struct Name {
+    pub len: usize,
+}
+
+impl Name {
+    // Octets of a label, and of a name with its length octets and the zero octet.
+    pub const LABEL: usize = 63;
+
+    pub const LONGEST: usize = 255;
+}
+
+pub enum NameRead {
+    Good(Name),
+    Bad,
+}
+
+// Reads the name without pointers at an offset.
+pub fn read_name(s: &[u8], at: usize) -> NameRead
+    ensures { λ r. ⌜ r ≡ nameAt (now (s .entry)) at ⌝ }
+{
+    let mut p = at;
+    let mut n: usize = 0;
+    while p < s.len() {
+        let c = s[p] as usize;
+        if c == 0 {
+            return NameRead::Good(Name { len: n + 1 });
+        }
+        if Name::LABEL < c {
+            return NameRead::Bad;
+        }
+        if Name::LONGEST <= n + 1 + c {
+            return NameRead::Bad;
+        }
+        n = n + 1 + c;
+        p = p + 1 + c;
+    }
+    NameRead::Bad
+}
+
+// An octet with 65..90 raised by 32.
+pub fn fold(c: u8) -> u8
+    ensures { λ r. ⌜ r ≡ folded c ⌝ }
+{
+    if 65 <= c {
+        if c <= 90 { c + 32 } else { c }
+    } else {
+        c
+    }
+}
+
+// Whether two names, each the whole of its slice, are equal under folding. There is no early exit: the loop then runs on many
+// octets at once.
+pub fn same_name(a: &[u8], b: &[u8]) -> bool
+    ensures { λ r. ⌜ r ≡ sameName (now (a .entry)) (now (b .entry)) ⌝ }
+{
+    if a.len() != b.len() {
+        return false;
+    }
+    let mut same = true;
+    let mut i = 0;
+    while i < a.len() {
+        if fold(a[i]) != fold(b[i]) {
+            same = false;
+        }
+        i = i + 1;
+    }
+    same
+}
+
+// The name in a record: the offset after it, the octets of the expanded name, and the pointers followed.
+pub struct RecordName {
+    pub next: usize,
+    pub len: usize,
+    pub pointers: usize,
+}
+
+impl RecordName {
+    pub const POINTERS: usize = 16;
+
+    // The least target of a pointer: the octet after the header.
+    pub const LEAST_TARGET: usize = 12;
+
+    // A length octet from here on has its top two bits set.
+    pub const POINTER: usize = 0xC0;
+}
+
+pub enum RecordNameRead {
+    Good(RecordName),
+    Bad,
+}
+
+// Where a record's name is being read: the offset, where the current run of labels began, the pointers followed, the octets of
+// the expanded name so far, and where reading goes on after the first pointer.
+pub struct Walk {
+    pub at: usize,
+    pub run: usize,
+    pub pointers: usize,
+    pub len: usize,
+    pub next: usize,
+}
+
+pub enum Turn {
+    More(Walk),
+    End(RecordName),
+    Wrong,
+}
+
+// Where reading goes on after the name: after its first pointer, else at p.
+fn goes_on(w: Walk, p: usize) -> usize
+    ensures { λ r. ⌜ r ≡ goesOn w p ⌝ }
+{
+    if w.pointers == 0 { p } else { w.next }
+}
+
+impl Walk {
+    fn start(at: usize) -> Self
+        ensures { λ r. ⌜ r ≡ walkAt at ⌝ }
+    {
+        Walk {
+            at: at,
+            run: at,
+            pointers: 0,
+            len: 0,
+            next: 0,
+        }
+    }
+}
+
+// The turn at a pointer's first octet.
+fn pointer_turn(s: &[u8], w: Walk) -> Turn
+    requires { ⌜ (w .at < length (now s)) × (pointerMark ≤ octetAt (now s) (w .at)) ⌝ }
+    ensures { λ r. ⌜ r ≡ pointerTurn (now (s .entry)) w ⌝ }
+{
+    let at = w.at;
+    if s.len() <= at + 1 {
+        return Turn::Wrong;
+    }
+    let to = (octets::big(s, at) as usize) - RecordName::POINTER * 256;
+    if to < RecordName::LEAST_TARGET {
+        return Turn::Wrong;
+    }
+    if w.run <= to {
+        return Turn::Wrong;
+    }
+    if RecordName::POINTERS <= w.pointers {
+        return Turn::Wrong;
+    }
+    Turn::More(Walk {
+        at: to,
+        run: to,
+        pointers: w.pointers + 1,
+        len: w.len,
+        next: goes_on(w, at + 2),
+    })
+}
+
+// One turn of reading: the zero octet, a label, a pointer, or none of these.
+fn next_turn(s: &[u8], w: Walk) -> Turn
+    requires { ⌜ w .len < longestName ⌝ }
+    ensures { λ r. ⌜ r ≡ turnAt (now (s .entry)) w ⌝ }
+{
+    let at = w.at;
+    if s.len() <= at {
+        return Turn::Wrong;
+    }
+    let c = s[at] as usize;
+    if c == 0 {
+        return Turn::End(RecordName {
+            next: goes_on(w, at + 1),
+            len: w.len + 1,
+            pointers: w.pointers,
+        });
+    }
+    if c <= Name::LABEL {
+        if Name::LONGEST <= w.len + 1 + c {
+            return Turn::Wrong;
+        }
+        return Turn::More(Walk {
+            at: at + 1 + c,
+            run: w.run,
+            pointers: w.pointers,
+            len: w.len + 1 + c,
+            next: w.next,
+        });
+    }
+    if c < RecordName::POINTER {
+        return Turn::Wrong;
+    }
+    pointer_turn(s, w)
+}
+
+// Reads the name at an offset of a record.
+pub fn read_record_name(s: &[u8], at: usize) -> RecordNameRead
+    ensures { λ r. ⌜ r ≡ recordNameAt (now (s .entry)) at ⌝ }
+{
+    let mut w = Walk::start(at);
+    loop {
+        let t = next_turn(s, w);
+        match t {
+            Turn::More(v) => {
+                w = v;
+            }
+            Turn::End(r) => {
+                return RecordNameRead::Good(r);
+            }
+            Turn::Wrong => {
+                return RecordNameRead::Bad;
+            }
+        }
+    }
+}
+
+// Copies the labels of the name at an offset, and its zero octet, to the start of a buffer that has room.
+fn copy_labels(s: &[u8], at: usize, out: &mut [u8])
+    requires { ⌜ length (expandedFrom turns (now s) (walkAt at)) ≤ length (now out) ⌝ }
+    ensures { λ r. ⌜ now (out .exit) ≡ splice (now (out .entry)) 0 (expandedFrom turns (now (s .entry)) (walkAt at)) ⌝ }
+{
+    let mut w = Walk::start(at);
+    let mut used: usize = 0;
+    loop {
+        let t = next_turn(s, w);
+        match t {
+            Turn::More(v) => {
+                let p = w.at;
+                let label = octets::part(s, p, p + (v.len - w.len));
+                octets::put_octets(out, used, label);
+                used = used + label.len();
+                w = v;
+            }
+            Turn::End(_) => {
+                octets::put_octets(out, used, b"\x00");
+                return;
+            }
+            Turn::Wrong => {
+                return;
+            }
+        }
+    }
+}
+
+// Reads the name at an offset of a record, and writes the expanded name at the start of a buffer if it fits.
+pub fn expand_name(s: &[u8], at: usize, out: &mut [u8]) -> RecordNameRead
+    ensures { λ r. ⌜ r ≡ recordNameAt (now (s .entry)) at ⌝ }
+    ensures { λ r. ⌜ now (out .exit) ≡ put (now (out .entry)) 0 (expandedAt (now (s .entry)) at) ⌝ }
+{
+    let read = read_record_name(s, at);
+    let RecordNameRead::Good(r) = read else {
+        return read;
+    };
+    if out.len() < r.len {
+        return read;
+    }
+    copy_labels(s, at, out);
+    read
+}

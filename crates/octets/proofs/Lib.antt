@@ -1,0 +1,6 @@
+pub mod Tests
+pub mod Octets
+pub mod Splice
+pub mod Words
+pub mod Addresses
+pub mod Turns

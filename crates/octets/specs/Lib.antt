@@ -1,0 +1,4 @@
+pub mod Bounds
+pub mod Octets
+pub mod Words
+pub mod Addresses
