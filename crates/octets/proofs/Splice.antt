@@ -159,3 +159,13 @@ octets-splice d at xs o p =
 pub octets-put : (d : List ℕ) (at : ℕ) (xs : List ℕ) → Octets d → Octets xs → Octets (put d at xs)
 unfolding put
 octets-put d at xs o p = split (ltb (length d) (at + length xs)) (λ t. rw t o) (λ t. rw t (octets-splice d at xs o p))
+
+-- a write that fits after octets written from an offset on
+pub put-after : (out xs ys b : List ℕ) (base at : ℕ) → at ≡ base + length xs → b ≡ splice out base xs → at + length ys ≤ length out
+    → put b at ys ≡ splice out base (xs ++ ys)
+put-after out xs ys b base at a e h =
+    let k : base + length xs ≤ length out = omega arith in
+    let l : length b ≡ length out = ap length e ∙ length-splice out base xs k in
+    let m : at + length ys ≤ length b = omega arith in
+    let n : base + length xs + length ys ≤ length out = omega arith in
+    put-in b at ys m ∙ rw (e, a) (splice-splice out base xs ys n)

@@ -25,7 +25,9 @@ returns-2 c =
     (sym e, expanded-out _ _ _ e _ (c .if1 .taken))
 
 copy-labels-requires : tie.Need-copy-labels-requires
-copy-labels-requires c κs = expanded-room _ _ _ (sym (c .before .before .before .before .before .before .read-record-name .ensures) ∙ c .before .before .before .before .read .given .1) (c .before .before .before .before .before .before .before .before .before .args .out .now) (c .before .if1 .left)
+copy-labels-requires c κs =
+    let e = sym (c .before .before .before .before .before .before .read-record-name .ensures) ∙ c .before .before .before .before .read .given .1 in
+    expanded-room _ _ _ e (c .before .before .before .before .before .before .before .before .before .args .out .now) (c .before .if1 .left)
 
 same-length : tie.Need-same-length
 same-length c = search needs

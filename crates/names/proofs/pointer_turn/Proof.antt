@@ -1,4 +1,3 @@
-use borrow.Author.Tests.{lt-ltb, le-ltb, le-leb, lt-leb}
 -- `names::pointer_turn` meets its contract.
 use borrow.Author.Needs.{needs}
 use borrow.Author.Tests.{lt-ltb, le-ltb, le-leb, lt-leb}
