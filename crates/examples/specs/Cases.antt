@@ -3,7 +3,7 @@ use Prim.Native.Nat.{ℕ}
 use mathlib.Core.Path.{_≡_}
 use mathlib.Core.List.{List, [], _∷_, _++_}
 use lib.ListN.{take}
-use Rattle.name_table.specs.Check.{Held, Checked, good, bad, checkTable}
+use Rattle.name_table.specs.Check.{Checked, good, bad, checkTable}
 
 pub data Case : Type 0 where
   -- the check of a table

@@ -2,16 +2,16 @@
 use Prim.Native.Nat.{ℕ, suc, zero, _+_, _-_, _/_, _%_, _<_, _≤_}
 use mathlib.Core.Path.{_≡_, refl, sym, ap, _∙_, subst}
 use mathlib.Core.List.{List, [], _∷_, _++_, append-assoc, append-nil}
-use mathlib.Core.Bool.{Bool, true, false, cond}
-use mathlib.Core.Logic.{_↔_, _⊎_, inl, inr}
+use mathlib.Core.Bool.{Bool, true, false}
+use mathlib.Core.Logic.{_⊎_, inl, inr}
 use native.Mathlib.Omega.{arith}
-use native.Mathlib.Nat.{add-zero, add-assoc, zero-add}
+use native.Mathlib.Nat.{add-zero, zero-add}
 use lib.Dec.{ltb, leb, eqb}
-use lib.ListN.{length, getD, take, drop, length-append, length-drop, take-append-drop}
-use lib.Seq.{take-at, drop-at, drop-drop, take-length, length-take-le}
-use borrow.Author.Tests.{eq-eqb, eqb-true, eqb-false, ltb-true, ltb-false, leb-true, leb-false}
+use lib.ListN.{length, getD, take, drop, length-append, take-append-drop}
+use lib.Seq.{take-at, drop-at, drop-drop, take-length}
+use borrow.Author.Tests.{eq-eqb, eqb-true, eqb-false, ltb-true, leb-true, leb-false}
 use Rattle.octets.specs.Bounds.{usedBy4, usedBy6}
-use Rattle.octets.specs.Octets.{Octets, partOf}
+use Rattle.octets.specs.Octets.{Octets}
 use Rattle.octets.proofs.Tests.{split}
 use Rattle.octets.proofs.Octets.{octet-at, octets-append, octets-part, part-in, length-part}
 use Rattle.names.specs.declared.NameRead.{NameRead}
@@ -21,15 +21,12 @@ use Rattle.names.specs.Names.{Labels, AreLabels, IsName, NameAt, encode}
 use Rattle.names.specs.Folding.{foldedName, sameName}
 use Rattle.names.proofs.Names.{reads-a-name, encode-some, encode-one}
 use Rattle.names.proofs.Folding.{same-names}
-use Rattle.name_table.specs.Bounds.{mostNames, mostRecords, entryHead}
+use Rattle.name_table.specs.Bounds.{mostNames, mostRecords}
 use Rattle.name_table.specs.Kinds.{kindOf}
-use Rattle.name_table.specs.declared.Kind.{Kind}
-use Rattle.name_table.specs.declared.Form.{Form}
-use Rattle.name_table.specs.declared.Form.the-variants.{Name, Record, Bad}
 use Rattle.name_table.specs.declared.Found.{Found}
 use Rattle.name_table.specs.declared.Found.the-variants.{At, Nothing}
 use Rattle.name_table.specs.Check.{Held, State, Stepped, on, broken, lengthAt, kindAt, bodyAt, isWhole, lengthIs, nameFills, nameForm, recordForm, formBy, formAt, findFrom, findName, ifNew, withName, withRecord, stepBy, step}
-use Rattle.name_table.specs.Entries.{NameKind, unique, shared, Data, a, aaaa, ptr, Entry, name, resource, kind, dataOctets, body, entryOctets, tableOctets, names, recordsAfter, records, New, NameRules, RecordRules, AddressRules, DataRules, Keeps, NoEntry, Breaks, cut-short, length-below-head, past-the-end, kind-zero, kind-above-5, not-a-name, not-4-octets, not-16-octets, root-name, too-many-names, equal-name, no-owner, too-many-records, located}
+use Rattle.name_table.specs.Entries.{NameKind, unique, shared, Data, a, aaaa, ptr, Entry, name, resource, kind, dataOctets, body, entryOctets, tableOctets, names, recordsAfter, records, New, NameRules, RecordRules, DataRules, Keeps, NoEntry, Breaks, cut-short, length-below-head, past-the-end, kind-zero, kind-above-5, not-a-name, not-4-octets, not-16-octets, root-name, too-many-names, equal-name, no-owner, too-many-records, located}
 use Rattle.name_table.proofs.Fold.{Whole, whole-is, stepOf, step-is}
 
 -- every name is one

@@ -2,19 +2,17 @@
 use Prim.Native.Nat.{ℕ, suc, zero, _+_, _-_, _<_, _≤_}
 use mathlib.Core.Path.{_≡_, refl, sym, ap, _∙_}
 use mathlib.Core.List.{List, [], _∷_, _++_}
-use mathlib.Core.Bool.{Bool, true, false}
+use mathlib.Core.Bool.{true}
 use native.Mathlib.Omega.{arith}
-use lib.Dec.{ltb, leb, eqb}
-use lib.ListN.{length, getD, take, drop, length-append, length-drop, List·getD-append}
+use lib.Dec.{ltb, eqb}
+use lib.ListN.{length, take, drop, length-append, length-drop, List·getD-append}
 use lib.Seq.{take-append-le, drop-append-le}
 use borrow.Author.Tests.{eq-eqb, ne-eqb, le-ltb, le-leb, eqb-true, eqb-false, ltb-false, leb-true}
 use Rattle.octets.specs.Octets.{partOf}
 use Rattle.octets.proofs.Tests.{split}
 use Rattle.octets.proofs.Octets.{part-in}
 use Rattle.name_table.specs.Kinds.{kindOf}
-use Rattle.name_table.specs.declared.Form.{Form}
-use Rattle.name_table.specs.declared.Form.the-variants.{Name, Record, Bad}
-use Rattle.name_table.specs.Check.{State, Stepped, on, broken, Walked, whole, stopped, lengthAt, kindAt, bodyAt, isWhole, formBy, formAt, findName, ifNew, withName, withRecord, stepBy, step, onStep, from, checkFrom}
+use Rattle.name_table.specs.Check.{State, Stepped, on, broken, whole, stopped, lengthAt, kindAt, bodyAt, isWhole, formBy, formAt, stepBy, step, from, checkFrom}
 
 -- an entry's length and kind are there, and its length counts them and lies within s
 pub record Whole (s : List ℕ) : Type 0 where

@@ -2,21 +2,21 @@
 use Prim.Native.Nat.{ℕ, suc, zero, _+_, _-_, _<_, _≤_}
 use mathlib.Core.Path.{_≡_, refl, sym, ap, _∙_, subst}
 use mathlib.Core.List.{List, [], _∷_, _++_, append-assoc, append-nil}
-use mathlib.Core.Bool.{Bool, true, false, cond}
+use mathlib.Core.Bool.{false, cond}
 use mathlib.Core.Logic.{_↔_, _⊎_, inl, inr}
 use native.Mathlib.Omega.{arith}
 use lib.Dec.{ltb}
-use lib.ListN.{length, drop, length-append, length-drop}
+use lib.ListN.{length, drop}
 use lib.Seq.{drop-at}
 use borrow.Author.Tests.{lt-ltb, le-ltb, ltb-true, ltb-false}
 use Rattle.octets.specs.Octets.{Octets}
 use Rattle.octets.proofs.Tests.{split}
 use Rattle.octets.proofs.Octets.{octets-drop}
 use Rattle.name_table.specs.Bounds.{longestTable}
-use Rattle.name_table.specs.Check.{Held, State, Stepped, on, broken, Walked, whole, stopped, Checked, good, bad, checkedBy, lengthAt, step, from, checkFrom, start, checkTable}
+use Rattle.name_table.specs.Check.{Held, State, on, broken, Walked, whole, stopped, good, bad, checkedBy, lengthAt, step, from, checkFrom, start, checkTable}
 use Rattle.name_table.specs.Entries.{Entry, entryOctets, tableOctets, names, Keeps, AllKeep, GoodTable, Breaks, BadEntry, located}
 use Rattle.name_table.proofs.Fold.{step-whole, turn-on, turn-end, turn-off, shorter, fuel}
-use Rattle.name_table.proofs.Entries.{stateOf, table-append, AreNames, entry-length, entry-size, entry-rest, Judged, taken, refused, judge, none-stands, one-entry, takes, names-kept}
+use Rattle.name_table.proofs.Entries.{stateOf, AreNames, entry-rest, Judged, taken, refused, judge, none-stands, one-entry, takes, names-kept}
 
 -- what a check from the state after `before` comes to
 data Run (before : List Entry) (s : List ℕ) : Walked → Type 0 where

@@ -1,5 +1,5 @@
 -- Names by number: what `find` and `name` give on a good table.
-use Prim.Native.Nat.{ℕ, suc, zero, _+_, _<_, _≤_, min}
+use Prim.Native.Nat.{ℕ, suc, _+_, _<_, _≤_, min}
 use mathlib.Core.Path.{_≡_, refl, sym, ap, _∙_, subst}
 use mathlib.Core.List.{List, [], _∷_, _++_, append-assoc, append-nil}
 use mathlib.Core.Bool.{Bool, true, false}
@@ -15,15 +15,14 @@ use Rattle.names.specs.Names.{Labels, IsName, encode}
 use Rattle.names.specs.Folding.{foldedName}
 use Rattle.name_table.specs.Bounds.{mostNames}
 use Rattle.name_table.specs.Kinds.{kindOf}
-use Rattle.name_table.specs.Check.{Held, findName, findFrom}
+use Rattle.name_table.specs.Check.{findName}
 use Rattle.name_table.specs.Entries.{Entry, name, resource, names, New, Keeps, AllKeep, GoodTable, located}
-use Rattle.name_table.specs.Shown.{heldAt, heldFrom, namesOf, nameOf}
+use Rattle.name_table.specs.Shown.{heldAt, namesOf, nameOf}
 use Rattle.name_table.specs.declared.Table.{Table}
-use Rattle.name_table.specs.declared.Found.{Found}
 use Rattle.name_table.specs.declared.Found.the-variants.{At, Nothing}
 use Rattle.name_table.specs.declared.NameFound.the-variants.{At as Named, Nothing as Unnamed}
 use Rattle.name_table.proofs.Shown.{held-length, held-at}
-use Rattle.name_table.proofs.Entries.{AreNames, names-append, names-kept, Sought, equal, none, seek, not-new, located-length}
+use Rattle.name_table.proofs.Entries.{names-append, Sought, equal, none, seek, not-new}
 use Rattle.name_table.proofs.Meaning.{all-names}
 use Rattle.name_table.proofs.Records.{noName}
 

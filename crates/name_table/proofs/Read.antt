@@ -1,10 +1,10 @@
 -- The loop that reads a table: what it keeps, and a turn of it.
-use Prim.Native.Nat.{ℕ, suc, zero, _+_, _-_, _<_, _≤_}
+use Prim.Native.Nat.{ℕ, suc, _+_, _-_, _<_, _≤_}
 use mathlib.Core.Path.{_≡_, refl, sym, ap, _∙_, subst}
-use mathlib.Core.List.{List, [], _∷_, _++_}
-use mathlib.Core.Bool.{Bool, true, false, cond}
+use mathlib.Core.List.{List}
+use mathlib.Core.Bool.{Bool}
 use native.Mathlib.Omega.{arith}
-use lib.ListN.{length, take, drop, set, length-drop, length-set}
+use lib.ListN.{length, take, drop, length-drop, length-set}
 use lib.Seq.{drop-drop}
 use lib.Dec.{leb, eqb}
 use borrow.Author.Tests.{lt-ltb, le-ltb, leb-false}
@@ -19,7 +19,7 @@ use Rattle.name_table.specs.declared.Form.{Form}
 use Rattle.name_table.specs.declared.Form.the-variants.{Name, Record, Bad}
 use Rattle.name_table.specs.declared.Found.the-variants.{At, Nothing}
 use Rattle.name_table.specs.declared.Table.{Table}
-use Rattle.name_table.specs.Check.{Held, State, Stepped, on, broken, Checked, bad, good, checkedBy, lengthAt, kindAt, bodyAt, isWhole, nameFills, nameForm, recordForm, formBy, formAt, findName, withName, withRecord, stepBy, step, from, checkFrom, start, checkTable}
+use Rattle.name_table.specs.Check.{State, on, broken, bad, good, checkedBy, lengthAt, kindAt, bodyAt, isWhole, nameFills, nameForm, recordForm, formBy, formAt, findName, withName, withRecord, stepBy, step, checkFrom, checkTable}
 use Rattle.name_table.specs.Shown.{heldFrom, namesOf, empty, added}
 use Rattle.name_table.proofs.Fold.{Whole, whole-is, step-whole, turn-on, turn-end, turn-off, shorter, fuel}
 use Rattle.name_table.proofs.Shown.{names-added, names-length}

@@ -1,18 +1,15 @@
 -- Laws for the code: the rest of a table, and the arrays that show its names.
 use Prim.Native.Nat.{ℕ, suc, zero, _+_, _-_, _<_, _≤_, min}
-use mathlib.Core.Path.{_≡_, refl, sym, ap, _∙_, subst}
+use mathlib.Core.Path.{_≡_, refl, sym, ap, _∙_}
 use mathlib.Core.List.{List, [], _∷_, _++_}
-use mathlib.Core.Bool.{Bool, true, false, cond}
+use mathlib.Core.Bool.{true, false}
 use native.Mathlib.Omega.{arith}
 use native.Mathlib.Nat.{add-zero}
 use native.Mathlib.Numerals.{add-one}
-use lib.Dec.{ltb, eqb}
-use lib.ListN.{length, getD, take, drop, set, length-drop, drop-of-length-le}
-use lib.Seq.{take-all, getD-set-other, getD-set-same}
+use lib.Dec.{eqb}
+use lib.ListN.{length, getD, drop, set, length-drop}
+use lib.Seq.{getD-set-other, getD-set-same}
 use Rattle.octets.specs.Octets.{partOf}
-use Rattle.octets.proofs.Tests.{split}
-use Rattle.octets.proofs.Octets.{part-in, part-crossed}
-use borrow.Author.Tests.{ltb-true, ltb-false}
 use Rattle.names.specs.Folding.{sameName}
 use Rattle.name_table.specs.Bounds.{mostNames}
 use Rattle.name_table.specs.Kinds.{kindOf}
@@ -24,17 +21,7 @@ use Rattle.name_table.specs.declared.Found.the-variants.{At, Nothing}
 use Rattle.name_table.specs.declared.Table.{Table}
 use Rattle.name_table.specs.Check.{Held, lengthAt, kindAt, bodyAt, isWhole, nameFills, nameForm, recordForm, formBy, formAt, findFrom}
 use Rattle.name_table.specs.Shown.{heldAt, heldFrom, namesOf, added}
-use Rattle.name_table.proofs.Fold.{Whole, whole-is}
-
--- the part from an offset to the end
-pub part-rest : (s : List ℕ) (at : ℕ) → partOf s at (length s) ≡ drop at s
-part-rest s at =
-    split (ltb (length s) at)
-    (λ e. let l : length s < at = ltb-true _ _ e in
-    let h : length s ≤ at = omega arith in
-    part-crossed s at (length s) l ∙ sym (drop-of-length-le s h))
-    (λ e. let h : length (drop at s) ≤ length s - at = omega (arith, length-drop at s) in
-    part-in s at (length s) (ltb-false _ _ e) (omega arith) ∙ take-all (length s - at) (drop at s) h)
+use Rattle.name_table.proofs.Fold.{whole-is}
 
 -- a whole entry at an offset ends within the table
 pub whole-ends : (s t : List ℕ) (at : ℕ) → t ≡ drop at s → isWhole t ≡ true → (at + 4 ≤ length s) × (at + lengthAt t ≤ length s)

@@ -3,14 +3,13 @@ use Prim.Native.Nat.{ℕ, zero, suc, _+_, min}
 use mathlib.Core.List.{List, [], _∷_}
 use mathlib.Core.Bool.{cond}
 use lib.ListN.{getD, set, replicate}
-use lib.Dec.{ltb, leb}
+use lib.Dec.{leb}
 use Rattle.octets.specs.Octets.{partOf}
 use Rattle.name_table.specs.Bounds.{mostNames}
 use Rattle.name_table.specs.Kinds.{kindOf}
-use Rattle.name_table.specs.Check.{Held, State, Checked, good, bad, findName}
+use Rattle.name_table.specs.Check.{Held, Checked, good, bad}
 use Rattle.name_table.specs.declared.Table.{Table}
 use Rattle.name_table.specs.declared.TableRead.{TableRead}
-use Rattle.name_table.specs.declared.Named.{Named}
 use Rattle.name_table.specs.declared.NameFound.{NameFound}
 use Rattle.name_table.specs.declared.NameFound.the-variants.{At, Nothing}
 

@@ -5,8 +5,8 @@ use mathlib.Core.List.{List, [], _∷_, _++_}
 use mathlib.Core.Bool.{Bool, true, false}
 use native.Mathlib.Omega.{arith}
 use lib.Dec.{ltb}
-use lib.ListN.{length, getD, take, drop, length-drop}
-use lib.Seq.{length-take-le}
+use lib.ListN.{length, getD, take, drop, length-drop, drop-of-length-le}
+use lib.Seq.{length-take-le, take-all}
 use borrow.Author.Tests.{lt-ltb, le-ltb, ltb-true, ltb-false}
 use Rattle.octets.proofs.Tests.{split}
 use Rattle.octets.specs.Octets.{Octets, runsPast, partOf}
@@ -73,3 +73,13 @@ module _ (s : List ℕ) (a e : ℕ) where
       (ltb e a)
       (λ t. rw t tt)
       (λ t. split (ltb (length s) e) (λ u. rw (t, u) tt) (λ u. rw (t, u) (octets-take (e - a) (drop a s) (octets-drop a s o))))
+
+-- the part from an offset to the end
+pub part-rest : (s : List ℕ) (at : ℕ) → partOf s at (length s) ≡ drop at s
+part-rest s at =
+    split (ltb (length s) at)
+    (λ e. let l : length s < at = ltb-true _ _ e in
+    let h : length s ≤ at = omega arith in
+    part-crossed s at (length s) l ∙ sym (drop-of-length-le s h))
+    (λ e. let h : length (drop at s) ≤ length s - at = omega (arith, length-drop at s) in
+    part-in s at (length s) (ltb-false _ _ e) (omega arith) ∙ take-all (length s - at) (drop at s) h)

@@ -1,5 +1,5 @@
 -- Addresses: a family, 4 or 6, and 16 octets. Family 4 uses the first four and ignores the rest.
-use Prim.Native.Nat.{ℕ, zero, suc, _+_, _<_}
+use Prim.Native.Nat.{ℕ, zero, suc, _<_}
 use mathlib.Core.Path.{_≡_}
 use mathlib.Core.List.{List, [], _∷_}
 use mathlib.Core.Bool.{Bool, true, false, cond}

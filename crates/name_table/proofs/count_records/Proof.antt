@@ -9,9 +9,6 @@ use denote.Ref.{now}
 use borrow.Author.Needs.{needs}
 use Rattle.name_table.proofs.count_records.Statement.{statement}
 use Rattle.name_table.proofs.count_records.Tie as tie
-use Rattle.name_table.proofs.count_records.Reads as reads
-use Rattle.name_table.proofs.count_records.Lts as lts
-use Rattle.name_table.proofs.record_at.Reads as record-at-reads
 
 abbrev Inv-loop : tie.InvT-loop
 Inv-loop table at n₀ p₀ n p = (n ≤ p) × (length (recordsOf table at) ≡ n + length (recordsOf table p))
@@ -19,23 +16,18 @@ Inv-loop table at n₀ p₀ n p = (n ≤ p) × (length (recordsOf table at) ≡ 
 abbrev μ-loop : tie.MeasureT-loop
 μ-loop table at n₀ p₀ n p = length table - p
 
--- src/lib.rt:353:5
 loop-holds : tie.Need-loop-holds Inv-loop μ-loop
 loop-holds c = (search needs, search needs)
 
--- src/lib.rt:354:13
 record-at-requires : tie.Need-record-at-requires Inv-loop μ-loop
 record-at-requires c κs = search needs
 
--- src/lib.rt:355:30
 enum-known-read : tie.Need-enum-known-read Inv-loop μ-loop
 enum-known-read c = search needs
 
--- src/lib.rt:356:13
 enum-told : tie.Need-enum-told Inv-loop μ-loop
 enum-told c = search needs
 
--- src/lib.rt:356:13
 returns : tie.Need-returns Inv-loop μ-loop
 returns c =
     let l = c .before .before .before in
@@ -43,7 +35,6 @@ returns c =
     let e = count-end s (l .loop .p) (sym (c .before .before .record-at .ensures) ∙ c .enum-told .given .1) in
     omega (arith, l .loop .inv .1)
 
--- src/lib.rt:358:13
 add-n : tie.Need-add-n Inv-loop μ-loop
 add-n c =
     let l = c .before .before .before .before in
@@ -52,7 +43,6 @@ add-n c =
     let i = record-inside s (l .loop .p) _ e in
     omega (arith, l .loop .inv .0, i .0, i .1)
 
--- src/lib.rt:353:5
 loop-less : tie.Need-loop-less Inv-loop μ-loop
 loop-less c =
     let l = c .before .before .before .before in
@@ -61,7 +51,6 @@ loop-less c =
     let i = record-inside s (l .loop .p) _ e in
     omega (arith, i .0, i .1)
 
--- src/lib.rt:353:5
 loop-again : tie.Need-loop-again Inv-loop μ-loop
 loop-again c =
     let l = c .before .before .before .before in

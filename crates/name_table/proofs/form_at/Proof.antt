@@ -9,86 +9,58 @@ use denote.Ref.{now}
 use borrow.Author.Needs.{needs}
 use Rattle.name_table.proofs.form_at.Statement.{statement}
 use Rattle.name_table.proofs.form_at.Tie as tie
-use Rattle.name_table.proofs.form_at.Reads as reads
-use Rattle.name_table.proofs.form_at.Lts as lts
-use Rattle.name_table.proofs.has_length.Reads as has-length-reads
-use Rattle.name_table.proofs.is_whole.Reads as is-whole-reads
-use Rattle.name_table.proofs.kind_of.Reads as kind-of-reads
-use Rattle.name_table.proofs.name_fills.Reads as name-fills-reads
-use Rattle.name_table.proofs.name_form.Reads as name-form-reads
-use Rattle.name_table.proofs.record_form.Reads as record-form-reads
-use Rattle.octets.proofs.little.Reads as little-reads
-use Rattle.octets.proofs.part.Reads as part-reads
 
--- src/lib.rt:150:8
 is-whole-requires : tie.Need-is-whole-requires
 is-whole-requires c κs = search needs
 
--- src/lib.rt:151:49
 little-requires : tie.Need-little-requires
 little-requires c κs = search needs
 
--- src/lib.rt:151:49
 cast-part : tie.Need-cast-part
 cast-part c = search needs
 
--- src/lib.rt:151:13
 part-requires : tie.Need-part-requires
 part-requires c κs = search needs
 
--- src/lib.rt:152:28
 little-requires-2 : tie.Need-little-requires-2
 little-requires-2 c κs = search needs
 
--- src/lib.rt:152:13
 kind-of-requires : tie.Need-kind-of-requires
 kind-of-requires c κs = search needs
 
--- src/lib.rt:154:29
 enum-told : tie.Need-enum-told
 enum-told c = search needs
 
--- src/lib.rt:154:29
 name-form-requires : tie.Need-name-form-requires
 name-form-requires c κs = search needs
 
--- src/lib.rt:155:29
 enum-told-2 : tie.Need-enum-told-2
 enum-told-2 c = search needs
 
--- src/lib.rt:155:29
 name-form-requires-2 : tie.Need-name-form-requires-2
 name-form-requires-2 c κs = search needs
 
--- src/lib.rt:156:38
 enum-known-kind : tie.Need-enum-known-kind
 enum-known-kind c = search needs
 
--- src/lib.rt:156:75
 has-length-requires : tie.Need-has-length-requires
 has-length-requires c κs = search needs
 
--- src/lib.rt:156:47
 record-form-requires : tie.Need-record-form-requires
 record-form-requires c κs = search needs
 
--- src/lib.rt:157:70
 enum-told-3 : tie.Need-enum-told-3
 enum-told-3 c = search needs
 
--- src/lib.rt:157:70
 name-fills-requires : tie.Need-name-fills-requires
 name-fills-requires c κs = search needs
 
--- src/lib.rt:157:42
 record-form-requires-2 : tie.Need-record-form-requires-2
 record-form-requires-2 c κs = search needs
 
--- src/lib.rt:158:30
 enum-told-4 : tie.Need-enum-told-4
 enum-told-4 c = search needs
 
--- src/lib.rt:153:9
 returns : tie.Need-returns
 returns c =
     let u = c .before .before .before in
@@ -96,7 +68,6 @@ returns c =
     by-unique s (now (u .before .before .part .result)) _ _ _ _ (sym (u .before .before .before .before .before .is-whole .ensures) ∙ u .before .before .before .before .if1 .taken)
     (u .kind-of .ensures ∙ ap kindOf (u .before .little2 .ensures)) (u .before .before .part .ensures ∙ ap (partOf s 4) (u .before .before .before .little .ensures)) (c .before .enum-told .given .1) (c .name-form .ensures)
 
--- src/lib.rt:153:9
 returns-2 : tie.Need-returns-2
 returns-2 c =
     let u = c .before .before .before in
@@ -104,7 +75,6 @@ returns-2 c =
     by-shared s (now (u .before .before .part .result)) _ _ _ _ (sym (u .before .before .before .before .before .is-whole .ensures) ∙ u .before .before .before .before .if1 .taken)
     (u .kind-of .ensures ∙ ap kindOf (u .before .little2 .ensures)) (u .before .before .part .ensures ∙ ap (partOf s 4) (u .before .before .before .little .ensures)) (c .before .enum-told2 .given .1) (c .name-form2 .ensures)
 
--- src/lib.rt:153:9
 returns-3 : tie.Need-returns-3
 returns-3 c =
     let u = c .before .before .before .before .before in
@@ -112,7 +82,6 @@ returns-3 c =
     by-octets s (now (u .before .before .part .result)) _ _ _ _ (sym (u .before .before .before .before .before .is-whole .ensures) ∙ u .before .before .before .before .if1 .taken)
     (u .kind-of .ensures ∙ ap kindOf (u .before .little2 .ensures)) (u .before .before .part .ensures ∙ ap (partOf s 4) (u .before .before .before .little .ensures)) _ _ (c .before .before .before .kind .given .1) (c .record-form .ensures ∙ ap (recordForm _ _) (c .before .has-length .ensures))
 
--- src/lib.rt:153:9
 returns-4 : tie.Need-returns-4
 returns-4 c =
     let u = c .before .before .before .before in
@@ -120,7 +89,6 @@ returns-4 c =
     by-target s (now (u .before .before .part .result)) _ _ _ _ (sym (u .before .before .before .before .before .is-whole .ensures) ∙ u .before .before .before .before .if1 .taken)
     (u .kind-of .ensures ∙ ap kindOf (u .before .little2 .ensures)) (u .before .before .part .ensures ∙ ap (partOf s 4) (u .before .before .before .little .ensures)) _ (c .before .before .enum-told3 .given .1) (c .record-form2 .ensures ∙ ap (recordForm _ _) (c .before .name-fills .ensures))
 
--- src/lib.rt:153:9
 returns-5 : tie.Need-returns-5
 returns-5 c =
     let u = c .before .before in
@@ -128,7 +96,6 @@ returns-5 c =
     by-unknown s (now (u .before .before .part .result)) _ _ _ _ (sym (u .before .before .before .before .before .is-whole .ensures) ∙ u .before .before .before .before .if1 .taken)
     (u .kind-of .ensures ∙ ap kindOf (u .before .little2 .ensures)) (u .before .before .part .ensures ∙ ap (partOf s 4) (u .before .before .before .little .ensures)) (c .enum-told4 .given .1) refl
 
--- src/lib.rt:147:1
 returns-6 : tie.Need-returns-6
 unfolding formAt
 returns-6 c = rw (sym (c .before .is-whole .ensures) ∙ c .if1 .left)

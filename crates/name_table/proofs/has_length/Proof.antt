@@ -1,16 +1,11 @@
 use borrow.Author.Tests.{eq-eqb, ne-eqb}
 use mathlib.Core.Path.{sym}
-use borrow.Author.Needs.{needs}
 use Rattle.name_table.proofs.has_length.Statement.{statement}
 use Rattle.name_table.proofs.has_length.Tie as tie
-use Rattle.name_table.proofs.has_length.Reads as reads
-use Rattle.name_table.proofs.has_length.Lts as lts
 
--- src/lib.rt:116:1
 returns : tie.Need-returns
 returns c = sym (eq-eqb _ _ (c .if1 .taken))
 
--- src/lib.rt:116:1
 returns-2 : tie.Need-returns-2
 returns-2 c = sym (ne-eqb _ _ (c .if1 .left))
 

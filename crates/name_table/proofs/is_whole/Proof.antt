@@ -3,24 +3,17 @@ use Rattle.name_table.specs.Check.{isWhole}
 use borrow.Author.Needs.{needs}
 use Rattle.name_table.proofs.is_whole.Statement.{statement}
 use Rattle.name_table.proofs.is_whole.Tie as tie
-use Rattle.name_table.proofs.is_whole.Reads as reads
-use Rattle.name_table.proofs.is_whole.Lts as lts
-use Rattle.octets.proofs.little.Reads as little-reads
 
--- src/lib.rt:107:9
 returns : tie.Need-returns
 unfolding isWhole
 returns c = rw (lt-ltb _ _ (c .if1 .taken))
 
--- src/lib.rt:109:15
 little-requires : tie.Need-little-requires
 little-requires c κs = search needs
 
--- src/lib.rt:109:15
 cast-len : tie.Need-cast-len
 cast-len c = search needs
 
--- src/lib.rt:111:9
 returns-2 : tie.Need-returns-2
 unfolding isWhole
 returns-2 c =
@@ -28,7 +21,6 @@ returns-2 c =
     let h = c .if2 .taken in
     rw (le-ltb _ _ (c .before .before .if1 .left), lt-ltb _ _ (rw n at h))
 
--- src/lib.rt:103:1
 returns-3 : tie.Need-returns-3
 unfolding isWhole
 returns-3 c =
@@ -37,7 +29,6 @@ returns-3 c =
     let i = c .if3 .taken in
     rw (le-ltb _ _ (c .before .before .before .if1 .left), le-ltb _ _ (rw n at h), le-leb _ _ (rw n at i))
 
--- src/lib.rt:103:1
 returns-4 : tie.Need-returns-4
 unfolding isWhole
 returns-4 c =

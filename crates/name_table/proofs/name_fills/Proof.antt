@@ -3,33 +3,24 @@ use borrow.Author.Tests.{eq-eqb, ne-eqb}
 use borrow.Author.Needs.{needs}
 use Rattle.name_table.proofs.name_fills.Statement.{statement}
 use Rattle.name_table.proofs.name_fills.Tie as tie
-use Rattle.name_table.proofs.name_fills.Reads as reads
-use Rattle.name_table.proofs.name_fills.Lts as lts
-use Rattle.names.proofs.read_name.Reads as read-name-reads
 
--- src/lib.rt:96:9
 read-name-requires : tie.Need-read-name-requires
 read-name-requires c κs = search needs
 
--- src/lib.rt:97:31
 enum-known-read : tie.Need-enum-known-read
 enum-known-read c = search needs
 
--- src/lib.rt:98:9
 enum-told : tie.Need-enum-told
 enum-told c = search needs
 
--- src/lib.rt:98:9
 returns : tie.Need-returns
 unfolding nameFills
 returns c = rw (← c .before .before .read-name .ensures, c .enum-told .given .1)
 
--- src/lib.rt:93:1
 returns-2 : tie.Need-returns-2
 unfolding nameFills
 returns-2 c = rw (← c .before .before .before .before .before .read-name .ensures, c .before .before .before .read .given .1, eq-eqb _ _ (c .if1 .taken))
 
--- src/lib.rt:93:1
 returns-3 : tie.Need-returns-3
 unfolding nameFills
 returns-3 c = rw (← c .before .before .before .before .before .read-name .ensures, c .before .before .before .read .given .1, ne-eqb _ _ (c .if1 .left))

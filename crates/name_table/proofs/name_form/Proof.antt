@@ -4,30 +4,22 @@ use mathlib.Core.Path.{sym, _∙_}
 use borrow.Author.Needs.{needs}
 use Rattle.name_table.proofs.name_form.Statement.{statement}
 use Rattle.name_table.proofs.name_form.Tie as tie
-use Rattle.name_table.proofs.name_form.Reads as reads
-use Rattle.name_table.proofs.name_form.Lts as lts
-use Rattle.name_table.proofs.name_fills.Reads as name-fills-reads
 
--- src/lib.rt:119:8
 name-fills-requires : tie.Need-name-fills-requires
 name-fills-requires c κs = search needs
 
--- src/lib.rt:121:13
 returns : tie.Need-returns
 unfolding nameForm
 returns c = rw (sym (c .before .before .name-fills .ensures) ∙ c .before .if1 .taken, le-leb _ _ (c .if2 .taken))
 
--- src/lib.rt:124:13
 returns-2 : tie.Need-returns-2
 unfolding nameForm
 returns-2 c = rw (sym (c .before .before .before .name-fills .ensures) ∙ c .before .before .if1 .taken, lt-leb _ _ (c .before .if2 .left), le-leb _ _ (c .if3 .taken))
 
--- src/lib.rt:126:9
 returns-3 : tie.Need-returns-3
 unfolding nameForm
 returns-3 c = rw (sym (c .before .before .before .name-fills .ensures) ∙ c .before .before .if1 .taken, lt-leb _ _ (c .before .if2 .left), lt-leb _ _ (c .if3 .left))
 
--- src/lib.rt:116:1
 returns-4 : tie.Need-returns-4
 unfolding nameForm
 returns-4 c = rw (sym (c .before .name-fills .ensures) ∙ c .if1 .left)

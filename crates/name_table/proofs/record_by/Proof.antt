@@ -2,50 +2,38 @@ use Rattle.name_table.specs.Records.{recordBy}
 use borrow.Author.Needs.{needs}
 use Rattle.name_table.proofs.record_by.Statement.{statement}
 use Rattle.name_table.proofs.record_by.Tie as tie
-use Rattle.name_table.proofs.record_by.Reads as reads
-use Rattle.name_table.proofs.record_by.Lts as lts
 
--- src/lib.rt:152:25
 enum-told : tie.Need-enum-told
 enum-told c = search needs
 
--- src/lib.rt:153:25
 enum-told-2 : tie.Need-enum-told-2
 enum-told-2 c = search needs
 
--- src/lib.rt:154:24
 enum-known-kind : tie.Need-enum-known-kind
 enum-known-kind c = search needs
 
--- src/lib.rt:159:24
 enum-known-kind-2 : tie.Need-enum-known-kind-2
 enum-known-kind-2 c = search needs
 
--- src/lib.rt:164:26
 enum-told-3 : tie.Need-enum-told-3
 enum-told-3 c = search needs
 
--- src/lib.rt:148:1
 returns : tie.Need-returns
 unfolding recordBy
 returns c = rw (c .enum-told .given .1)
 
--- src/lib.rt:148:1
 returns-2 : tie.Need-returns-2
 unfolding recordBy
 returns-2 c = rw (c .enum-told2 .given .1)
 
--- src/lib.rt:148:1
 returns-3 : tie.Need-returns-3
 unfolding recordBy
 returns-3 c = rw (c .before .kind .given .1)
 
--- src/lib.rt:148:1
 returns-4 : tie.Need-returns-4
 unfolding recordBy
 returns-4 c = rw (c .before .kind2 .given .1)
 
--- src/lib.rt:148:1
 returns-5 : tie.Need-returns-5
 unfolding recordBy
 returns-5 c = rw (c .enum-told3 .given .1)

@@ -1,27 +1,20 @@
 use borrow.Author.Tests.{eq-eqb, ne-eqb, le-leb, lt-leb}
 use Rattle.name_table.specs.Check.{recordForm}
-use borrow.Author.Needs.{needs}
 use Rattle.name_table.proofs.record_form.Statement.{statement}
 use Rattle.name_table.proofs.record_form.Tie as tie
-use Rattle.name_table.proofs.record_form.Reads as reads
-use Rattle.name_table.proofs.record_form.Lts as lts
 
--- src/lib.rt:137:13
 returns : tie.Need-returns
 unfolding recordForm
 returns c = rw (c .before .if1 .taken, eq-eqb _ _ (c .if2 .taken))
 
--- src/lib.rt:140:13
 returns-2 : tie.Need-returns-2
 unfolding recordForm
 returns-2 c = rw (c .before .before .if1 .taken, ne-eqb _ _ (c .before .if2 .left), le-leb _ _ (c .if3 .taken))
 
--- src/lib.rt:142:9
 returns-3 : tie.Need-returns-3
 unfolding recordForm
 returns-3 c = rw (c .before .before .if1 .taken, ne-eqb _ _ (c .before .if2 .left), lt-leb _ _ (c .if3 .left))
 
--- src/lib.rt:132:1
 returns-4 : tie.Need-returns-4
 unfolding recordForm
 returns-4 c = rw (c .if1 .left)

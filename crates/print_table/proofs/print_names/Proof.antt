@@ -2,11 +2,6 @@ use Prim.Native.Nat.{_-_, _≤_}
 use borrow.Author.Needs.{needs}
 use Rattle.print_table.proofs.print_names.Statement.{statement}
 use Rattle.print_table.proofs.print_names.Tie as tie
-use Rattle.print_table.proofs.print_names.Reads as reads
-use Rattle.print_table.proofs.print_names.Lts as lts
-use Rattle.print_table.proofs.number.Reads as number-reads
-use Rattle.print_table.proofs.print_name.Reads as print-name-reads
-use Rattle.print_table.proofs.text.Reads as text-reads
 
 abbrev Inv-loop : tie.InvT-loop
 Inv-loop octets table k₀ k = k ≤ table .names
@@ -14,47 +9,36 @@ Inv-loop octets table k₀ k = k ≤ table .names
 abbrev μ-loop : tie.MeasureT-loop
 μ-loop octets table k₀ k = table .names - k
 
--- src/main.rt:43:10
 slice-aggregate-text : tie.Need-slice-aggregate-text Inv-loop μ-loop
 slice-aggregate-text c = search needs
 
--- src/main.rt:43:5
 text-requires : tie.Need-text-requires Inv-loop μ-loop
 text-requires c κs = search needs
 
--- src/main.rt:44:5
 number-requires : tie.Need-number-requires Inv-loop μ-loop
 number-requires c κs = search needs
 
--- src/main.rt:45:10
 slice-aggregate-text-2 : tie.Need-slice-aggregate-text-2 Inv-loop μ-loop
 slice-aggregate-text-2 c = search needs
 
--- src/main.rt:45:5
 text-requires-2 : tie.Need-text-requires-2 Inv-loop μ-loop
 text-requires-2 c κs = search needs
 
--- src/main.rt:47:5
 loop-holds : tie.Need-loop-holds Inv-loop μ-loop
 loop-holds c = search needs
 
--- src/main.rt:48:9
 print-name-requires : tie.Need-print-name-requires Inv-loop μ-loop
 print-name-requires c κs = search needs
 
--- src/main.rt:49:13
 add-k : tie.Need-add-k Inv-loop μ-loop
 add-k c = search needs
 
--- src/main.rt:47:5
 loop-less : tie.Need-loop-less Inv-loop μ-loop
 loop-less c = search needs
 
--- src/main.rt:47:5
 loop-again : tie.Need-loop-again Inv-loop μ-loop
 loop-again c = search needs
 
--- src/main.rt:42:1
 returns : tie.Need-returns Inv-loop μ-loop
 returns c = search needs
 

@@ -5,17 +5,12 @@ use Rattle.name_table.specs.Check.{findName, findFrom}
 use Rattle.names.specs.Folding.{sameName}
 use Rattle.name_table.proofs.Shown.{find-on, find-off, find-end}
 use native.Mathlib.Nat.{sub-zero}
-use mathlib.Core.Path.{_≡_, refl, sym, ap, _∙_}
+use mathlib.Core.Path.{_≡_, sym, ap, _∙_}
 use mathlib.Core.List.{List}
 use Prim.Native.Nat.{ℕ, _-_, _≤_}
 use borrow.Author.Needs.{needs}
 use Rattle.name_table.proofs.Table.find.Statement.{statement}
 use Rattle.name_table.proofs.Table.find.Tie as tie
-use Rattle.name_table.proofs.Table.find.Reads as reads
-use Rattle.name_table.proofs.Table.find.Lts as lts
-use Rattle.name_table.proofs.count.Reads as count-reads
-use Rattle.names.proofs.same_name.Reads as same-name-reads
-use Rattle.octets.proofs.part.Reads as part-reads
 
 abbrev Inv-loop : tie.InvT-loop
 Inv-loop table name self n i₀ i =
@@ -24,55 +19,42 @@ Inv-loop table name self n i₀ i =
 abbrev μ-loop : tie.MeasureT-loop
 μ-loop table name self n i₀ i = n - i
 
--- src/lib.rt:228:13
 count-requires : tie.Need-count-requires Inv-loop μ-loop
 count-requires c κs = search needs
 
--- src/lib.rt:230:9
 loop-holds : tie.Need-loop-holds Inv-loop μ-loop
 loop-holds c = (search needs, search needs, rw (sub-zero, c .count .ensures))
 
--- src/lib.rt:231:21
 mul-a : tie.Need-mul-a Inv-loop μ-loop
 mul-a c = search needs
 
--- src/lib.rt:231:21
 element-copy-out-a : tie.Need-element-copy-out-a Inv-loop μ-loop
 element-copy-out-a c = search needs
 
--- src/lib.rt:232:21
 mul-e : tie.Need-mul-e Inv-loop μ-loop
 mul-e c = search needs
 
--- src/lib.rt:232:21
 element-copy-out-e : tie.Need-element-copy-out-e Inv-loop μ-loop
 element-copy-out-e c = search needs
 
--- src/lib.rt:233:33
 part-requires : tie.Need-part-requires Inv-loop μ-loop
 part-requires c κs = search needs
 
--- src/lib.rt:233:16
 same-name-requires : tie.Need-same-name-requires Inv-loop μ-loop
 same-name-requires c κs = search needs
 
--- src/lib.rt:234:17
 returns : tie.Need-returns Inv-loop μ-loop
 returns c = sym (c .before .before .before .before .before .before .loop .inv .2 ∙ find-on _ _ _ _ _ _ _ (c .before .before .before .before .before .loop-test .taken) (ap (λ (u : List ℕ). sameName u (now (c .before .before .before .before .before .before .before .before .before .before .args .name))) (sym (c .before .before .part .ensures)) ∙ sym (c .before .same-name .ensures) ∙ c .if1 .taken))
 
--- src/lib.rt:236:17
 add-i : tie.Need-add-i Inv-loop μ-loop
 add-i c = search needs
 
--- src/lib.rt:230:9
 loop-less : tie.Need-loop-less Inv-loop μ-loop
 loop-less c = search needs
 
--- src/lib.rt:230:9
 loop-again : tie.Need-loop-again Inv-loop μ-loop
 loop-again c = (search needs, search needs, c .before .before .before .before .before .before .loop .inv .2 ∙ find-off _ _ _ _ _ _ _ (c .before .before .before .before .before .loop-test .taken) (ap (λ (u : List ℕ). sameName u (now (c .before .before .before .before .before .before .before .before .before .before .args .name))) (sym (c .before .before .part .ensures)) ∙ sym (c .before .same-name .ensures) ∙ c .if1 .left))
 
--- src/lib.rt:225:5
 returns-2 : tie.Need-returns-2 Inv-loop μ-loop
 returns-2 c = sym (c .before .loop .inv .2 ∙ find-end _ _ _ _ _ _ _ (c .loop-test .left))
 

@@ -1,30 +1,20 @@
 use Rattle.name_table.proofs.Read.{reading-is}
 use Rattle.name_table.proofs.Read.{Reading, long, begin, ended, bad-form, bad-name, moves, room, on-record, on-name}
-use Rattle.name_table.proofs.Shown.{part-rest}
+use Rattle.octets.proofs.Octets.{part-rest}
 use Rattle.name_table.specs.Shown.{shown, namesOf, added}
-use Rattle.name_table.specs.Check.{lengthAt, kindAt, bodyAt, findName}
-use Rattle.name_table.specs.declared.Table.{Table}
-use Rattle.name_table.specs.declared.Form.the-variants.{Name, Record, Bad}
+use Rattle.name_table.specs.Check.{lengthAt, kindAt, findName}
+use Rattle.name_table.specs.declared.Form.the-variants.{Name, Record}
 use Rattle.octets.specs.Octets.{partOf}
 use native.Mathlib.Omega.{arith}
-use mathlib.Core.Path.{_≡_, refl, sym, ap, _∙_, subst}
+use mathlib.Core.Path.{_≡_, refl, sym, ap, _∙_}
 use mathlib.Core.List.{List}
 use mathlib.Core.Logic.{⊎-elim}
 use lib.ListN.{length, drop}
-use Prim.Native.Nat.{ℕ, _+_, _-_, _≤_, _<_}
+use Prim.Native.Nat.{ℕ, _+_, _-_}
 use denote.Ref.{now}
 use borrow.Author.Needs.{needs}
 use Rattle.name_table.proofs.Table.read.Statement.{statement}
 use Rattle.name_table.proofs.Table.read.Tie as tie
-use Rattle.name_table.proofs.Table.read.Reads as reads
-use Rattle.name_table.proofs.Table.read.Lts as lts
-use Rattle.name_table.proofs.Table.find.Reads as find-reads
-use Rattle.name_table.proofs.Table.fresh.Reads as fresh-reads
-use Rattle.name_table.proofs.Table.refused.Reads as refused-reads
-use Rattle.name_table.proofs.Table.with_name.Reads as with-name-reads
-use Rattle.name_table.proofs.form_at.Reads as form-at-reads
-use Rattle.octets.proofs.little.Reads as little-reads
-use Rattle.octets.proofs.part.Reads as part-reads
 
 abbrev Inv-loop : tie.InvT-loop
 Inv-loop table t₀ records₀ at₀ t records at = Reading table t records at
@@ -32,61 +22,47 @@ Inv-loop table t₀ records₀ at₀ t records at = Reading table t records at
 abbrev μ-loop : tie.MeasureT-loop
 μ-loop table t₀ records₀ at₀ t records at = length table - at
 
--- src/lib.rt:272:13
 refused-requires : tie.Need-refused-requires Inv-loop μ-loop
 refused-requires c κs = search needs
 
--- src/lib.rt:272:13
 returns : tie.Need-returns Inv-loop μ-loop
 returns c = ap (shown _) (c .refused .ensures) ∙ long _ (c .before .if1 .taken)
 
--- src/lib.rt:274:13
 fresh-requires : tie.Need-fresh-requires Inv-loop μ-loop
 fresh-requires c κs = search needs
 
--- src/lib.rt:277:9
 loop-holds : tie.Need-loop-holds Inv-loop μ-loop
 loop-holds c =
     let s : List ℕ = now (c .before .before .before .args .table) in
     reading-is s (c .fresh .ensures) refl refl (begin s (c .before .if1 .left))
 
--- src/lib.rt:278:17
 part-requires : tie.Need-part-requires Inv-loop μ-loop
 part-requires c κs = search needs
 
--- src/lib.rt:279:23
 little-requires : tie.Need-little-requires Inv-loop μ-loop
 little-requires c κs = search needs
 
--- src/lib.rt:279:23
 cast-len : tie.Need-cast-len Inv-loop μ-loop
 cast-len c = search needs
 
--- src/lib.rt:280:17
 form-at-requires : tie.Need-form-at-requires Inv-loop μ-loop
 form-at-requires c κs = search needs
 
--- src/lib.rt:283:47
 enum-told : tie.Need-enum-told Inv-loop μ-loop
 enum-told c = search needs
 
--- src/lib.rt:283:47
 part-requires-2 : tie.Need-part-requires-2 Inv-loop μ-loop
 part-requires-2 c κs = search needs
 
--- src/lib.rt:283:25
 find-requires : tie.Need-find-requires Inv-loop μ-loop
 find-requires c κs = search needs
 
--- src/lib.rt:285:25
 enum-told-2 : tie.Need-enum-told-2 Inv-loop μ-loop
 enum-told-2 c = search needs
 
--- src/lib.rt:285:25
 refused-requires-2 : tie.Need-refused-requires-2 Inv-loop μ-loop
 refused-requires-2 c κs = search needs
 
--- src/lib.rt:285:25
 returns-2 : tie.Need-returns-2 Inv-loop μ-loop
 returns-2 c =
     let f = c .before .before .before .before .before .before .before in
@@ -102,11 +78,9 @@ returns-2 c =
 enum-told-3 : tie.Need-enum-told-3 Inv-loop μ-loop
 enum-told-3 c = search needs
 
--- src/lib.rt:287:37
 little-requires-2 : tie.Need-little-requires-2 Inv-loop μ-loop
 little-requires-2 c κs = search needs
 
--- src/lib.rt:287:62
 add-with-name : tie.Need-add-with-name Inv-loop μ-loop
 add-with-name c =
     let f = c .before .before .before .before .before .before .before in
@@ -119,7 +93,6 @@ add-with-name c =
     let m = moves s (l .loop .t) (l .loop .records) (l .loop .at) (l .loop .inv) u e h Name (sym (f .form-at .ensures) ∙ c .before .before .before .before .before .enum-told .given .1) (λ z. let y : _≡_ {A = ℕ} 0 1 = cc in omega arith) in
     omega (arith, m .0, m .1)
 
--- src/lib.rt:287:80
 add-with-name-2 : tie.Need-add-with-name-2 Inv-loop μ-loop
 add-with-name-2 c =
     let f = c .before .before .before .before .before .before .before in
@@ -132,31 +105,25 @@ add-with-name-2 c =
     let m = moves s (l .loop .t) (l .loop .records) (l .loop .at) (l .loop .inv) u e h Name (sym (f .form-at .ensures) ∙ c .before .before .before .before .before .enum-told .given .1) (λ z. let y : _≡_ {A = ℕ} 0 1 = cc in omega arith) in
     omega (arith, m .1)
 
--- src/lib.rt:287:21
 with-name-requires : tie.Need-with-name-requires Inv-loop μ-loop
 with-name-requires c κs =
     let f = c .before .before .before .before .before .before .before in
     room _ _ _ (sym (f .form-at .ensures) ∙ c .before .before .before .before .before .enum-told .given .1)
 
--- src/lib.rt:291:31
 enum-told-4 : tie.Need-enum-told-4 Inv-loop μ-loop
 enum-told-4 c = search needs
 
--- src/lib.rt:291:31
 add-records : tie.Need-add-records Inv-loop μ-loop
 add-records c =
     let l = c .before .before .before .before .before .before in
     omega (arith, l .loop .inv .few, l .loop .inv .inside)
 
--- src/lib.rt:294:21
 enum-told-5 : tie.Need-enum-told-5 Inv-loop μ-loop
 enum-told-5 c = search needs
 
--- src/lib.rt:294:21
 refused-requires-3 : tie.Need-refused-requires-3 Inv-loop μ-loop
 refused-requires-3 c κs = search needs
 
--- src/lib.rt:294:21
 returns-3 : tie.Need-returns-3 Inv-loop μ-loop
 returns-3 c =
     let f = c .before .before .before in
@@ -168,7 +135,6 @@ returns-3 c =
     let n : f .before .little .result ≡ lengthAt u = f .before .little .ensures in
     ap (shown s) (c .refused3 .ensures) ∙ bad-form s (l .loop .t) (l .loop .records) (l .loop .at) (l .loop .inv) u e h (sym (f .form-at .ensures) ∙ c .before .enum-told5 .given .1)
 
--- src/lib.rt:297:18
 add-at : tie.Need-add-at Inv-loop μ-loop
 add-at c =
     let f = c .before in
@@ -180,7 +146,6 @@ add-at c =
     let n : f .before .little .result ≡ lengthAt u = f .before .little .ensures in
     ⊎-elim (λ w. let m = moves s (l .loop .t) (l .loop .records) (l .loop .at) (l .loop .inv) u e h Name (sym (f .form-at .ensures) ∙ w .1 .given .1) (λ z. let y : _≡_ {A = ℕ} 0 1 = cc in omega arith) in omega (arith, m .1)) (λ w. let m = moves s (l .loop .t) (l .loop .records) (l .loop .at) (l .loop .inv) u e h Record (sym (f .form-at .ensures) ∙ w .1 .given .1) (λ z. let y : _≡_ {A = ℕ} 0 1 = cc in omega arith) in omega (arith, m .1)) (c .match .came)
 
--- src/lib.rt:277:9
 loop-less : tie.Need-loop-less Inv-loop μ-loop
 loop-less c =
     let f = c .before in
@@ -192,7 +157,6 @@ loop-less c =
     let n : f .before .little .result ≡ lengthAt u = f .before .little .ensures in
     ⊎-elim (λ w. let m = moves s (l .loop .t) (l .loop .records) (l .loop .at) (l .loop .inv) u e h Name (sym (f .form-at .ensures) ∙ w .1 .given .1) (λ z. let y : _≡_ {A = ℕ} 0 1 = cc in omega arith) in omega (arith, m .0, m .1)) (λ w. let m = moves s (l .loop .t) (l .loop .records) (l .loop .at) (l .loop .inv) u e h Record (sym (f .form-at .ensures) ∙ w .1 .given .1) (λ z. let y : _≡_ {A = ℕ} 0 1 = cc in omega arith) in omega (arith, m .0, m .1)) (c .match .came)
 
--- src/lib.rt:277:9
 loop-again : tie.Need-loop-again Inv-loop μ-loop
 loop-again c =
     let f = c .before in
@@ -211,7 +175,6 @@ loop-again c =
     (λ w. reading-is s (w .2) (w .3) (ap (λ (k : ℕ). at + k) n) (on-record s (l .loop .t) (l .loop .records) (l .loop .at) (l .loop .inv) u e h (sym (f .form-at .ensures) ∙ w .1 .given .1)))
     (c .match .came)
 
--- src/lib.rt:268:5
 returns-4 : tie.Need-returns-4 Inv-loop μ-loop
 returns-4 c = ended _ _ _ _ (c .before .loop .inv) (c .loop-test .left)
 
