@@ -1,0 +1,6 @@
+pub mod Headers
+pub mod Questions
+pub mod Records
+pub mod Query
+pub mod Reply
+pub mod ReplyLaws

@@ -1,0 +1,6 @@
+pub mod Bounds
+pub mod Header
+pub mod Question
+pub mod Records
+pub mod Query
+pub mod Reply

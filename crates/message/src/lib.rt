@@ -1,0 +1,389 @@
+// Messages: header, question, resource records, queries and replies, read and written.
+ghost use mathlib.Core.Path.{_≡_};
+ghost use mathlib.Core.List.{[]};
+ghost use Prim.Native.Nat.{_+_, _<_, _≤_};
+ghost use lib.ListN.{length};
+ghost use Rattle.octets.specs.Octets.{put, splice};
+ghost use Rattle.message.specs.Bounds.{headerOctets, fixedOctets, ownerOctets};
+ghost use Rattle.message.specs.Header.{isSet, headerOf, headerAt};
+ghost use Rattle.message.specs.Question.{questionAt, questionOctets};
+ghost use Rattle.message.specs.Records.{recordAt, walkFrom};
+ghost use Rattle.message.specs.Query.{queryOctets};
+ghost use Rattle.message.specs.Reply.{replyFlags, isAsked, answerOctets, takenFrom, answersIn, replyWritten, Filled};
+
+// The header of a message. RFC 4795's C is the conflict flag, T the tentative flag.
+pub struct Header {
+    pub id: u16,
+    pub response: bool,
+    pub opcode: u8,
+    pub conflict: bool,
+    pub truncated: bool,
+    pub tentative: bool,
+    pub rcode: u8,
+    pub questions: u16,
+    pub answers: u16,
+    pub authorities: u16,
+    pub additionals: u16,
+}
+
+impl Header {
+    pub const OCTETS: usize = 12;
+}
+
+pub enum HeaderRead {
+    Good(Header),
+    Short,
+}
+
+fn is_set(word: u16, bit: u16) -> bool
+    requires { ⌜ 0 < bit ⌝ }
+    ensures { λ r. ⌜ r ≡ isSet word bit ⌝ }
+{
+    if word / bit % 2 == 1 { true } else { false }
+}
+
+fn header_of(s: &[u8]) -> Header
+    ensures { λ r. ⌜ r ≡ headerOf (now (s .entry)) ⌝ }
+{
+    let flags = octets::big(s, 2);
+    Header {
+        id: octets::big(s, 0),
+        response: is_set(flags, 0x8000),
+        opcode: (flags / 0x800 % 16) as u8,
+        conflict: is_set(flags, 0x400),
+        truncated: is_set(flags, 0x200),
+        tentative: is_set(flags, 0x100),
+        rcode: (flags % 16) as u8,
+        questions: octets::big(s, 4),
+        answers: octets::big(s, 6),
+        authorities: octets::big(s, 8),
+        additionals: octets::big(s, 10),
+    }
+}
+
+// Reads the header of a message.
+pub fn read_header(s: &[u8]) -> HeaderRead
+    ensures { λ r. ⌜ r ≡ headerAt (now (s .entry)) ⌝ }
+{
+    if s.len() < Header::OCTETS {
+        return HeaderRead::Short;
+    }
+    let header = header_of(s);
+    HeaderRead::Good(header)
+}
+
+// A question: the octets of its name, its type and class, and the offset after it.
+pub struct Question {
+    pub name: usize,
+    pub qtype: u16,
+    pub class: u16,
+    pub end: usize,
+}
+
+pub enum QuestionRead {
+    Good(Question),
+    Bad,
+}
+
+// Reads the question at an offset.
+pub fn read_question(s: &[u8], at: usize) -> QuestionRead
+    ensures { λ r. ⌜ r ≡ questionAt (now (s .entry)) at ⌝ }
+{
+    let read = names::read_name(s, at);
+    let names::NameRead::Good(n) = read else {
+        return QuestionRead::Bad;
+    };
+    let p = at + n.len;
+    if octets::runs_past(s.len(), p, 4) {
+        return QuestionRead::Bad;
+    }
+    QuestionRead::Good(Question {
+        name: n.len,
+        qtype: octets::big(s, p),
+        class: octets::big(s, p + 2),
+        end: p + 4,
+    })
+}
+
+// A resource record: its owner name, type, class, TTL in seconds, octets of data, where the data stands, and where the next
+// record begins.
+pub struct ResourceRecord {
+    pub owner: names::RecordName,
+    pub rtype: u16,
+    pub class: u16,
+    pub ttl: u32,
+    pub len: usize,
+    pub start: usize,
+    pub next: usize,
+}
+
+impl ResourceRecord {
+    // Octets between the owner and the data.
+    pub const FIXED: usize = 10;
+
+    // Octets of an answer that we write before its data: the owner's pointer and the fixed octets.
+    pub const ANSWER: usize = 12;
+
+    // The class and the TTL of every record that we write, and the type that asks for all.
+    pub const IN: u16 = 1;
+
+    pub const TTL: u16 = 30;
+
+    pub const ANY: u16 = 255;
+}
+
+pub enum RecordRead {
+    Good(ResourceRecord),
+    Bad,
+}
+
+// Reads the resource record at an offset.
+pub fn read_record(s: &[u8], at: usize) -> RecordRead
+    ensures { λ r. ⌜ r ≡ recordAt (now (s .entry)) at ⌝ }
+{
+    let read = names::read_record_name(s, at);
+    let names::RecordNameRead::Good(owner) = read else {
+        return RecordRead::Bad;
+    };
+    let p = owner.next;
+    if octets::runs_past(s.len(), p, ResourceRecord::FIXED) {
+        return RecordRead::Bad;
+    }
+    let len = octets::big(s, p + 8) as usize;
+    if octets::runs_past(s.len(), p + ResourceRecord::FIXED, len) {
+        return RecordRead::Bad;
+    }
+    RecordRead::Good(ResourceRecord {
+        owner: owner,
+        rtype: octets::big(s, p),
+        class: octets::big(s, p + 2),
+        ttl: (octets::big(s, p + 4) as u32) * 65536 + (octets::big(s, p + 6) as u32),
+        len: len,
+        start: p + ResourceRecord::FIXED,
+        next: p + ResourceRecord::FIXED + len,
+    })
+}
+
+// Where a walk over records ends: after the last, or at the first bad one.
+pub enum Walked {
+    End(usize),
+    Stopped(usize),
+}
+
+// Walks over so many resource records from an offset on.
+pub fn walk(s: &[u8], at: usize, count: u16) -> Walked
+    ensures { λ r. ⌜ r ≡ walkFrom count (now (s .entry)) at ⌝ }
+{
+    let mut p = at;
+    let mut left = count;
+    while 0 < left {
+        let read = read_record(s, p);
+        let RecordRead::Good(r) = read else {
+            return Walked::Stopped(p);
+        };
+        p = r.next;
+        left = left - 1;
+    }
+    Walked::End(p)
+}
+
+// Writes the header of a query with an ID and flags at the start of a buffer that has room.
+fn put_query_header(out: &mut [u8], id: u16, flags: u16)
+    requires { ⌜ headerOctets ≤ length (now out) ⌝ }
+    ensures { λ r. ⌜ now (out .exit) ≡ splice (now (out .entry)) 0 (queryOctets id flags []) ⌝ }
+{
+    octets::put_big(out, 0, id);
+    octets::put_big(out, 2, flags);
+    octets::put_octets(out, 4, b"\x00\x01\x00\x00\x00\x00\x00\x00");
+}
+
+// Writes a query with an ID, flags, and the octets of its question, if it fits; gives its length.
+pub fn write_query(out: &mut [u8], id: u16, flags: u16, question: &[u8]) -> usize
+    ensures { λ r. ⌜ r ≡ length (queryOctets id flags (now (question .entry))) ⌝ }
+    ensures { λ r. ⌜ now (out .exit) ≡ put (now (out .entry)) 0 (queryOctets id flags (now (question .entry))) ⌝ }
+{
+    let len = Header::OCTETS + question.len();
+    if octets::runs_past(out.len(), 0, len) {
+        return len;
+    }
+    put_query_header(out, id, flags);
+    octets::put_octets(out, Header::OCTETS, question);
+    len
+}
+
+// Writes a query with an ID, flags, and the octets of a name, a type and a class, if it fits; gives its length.
+pub fn write_name_query(
+    out: &mut [u8],
+    id: u16,
+    flags: u16,
+    name: &[u8],
+    qtype: u16,
+    class: u16,
+) -> usize
+    ensures { λ r. ⌜ r ≡ length (queryOctets id flags (questionOctets (now (name .entry)) qtype class)) ⌝ }
+    ensures { λ r. ⌜ now (out .exit) ≡ put (now (out .entry)) 0 (queryOctets id flags (questionOctets (now (name .entry)) qtype class)) ⌝ }
+{
+    let p = Header::OCTETS + name.len();
+    let len = p + 4;
+    if octets::runs_past(out.len(), 0, len) {
+        return len;
+    }
+    put_query_header(out, id, flags);
+    octets::put_octets(out, Header::OCTETS, name);
+    octets::put_big(out, p, qtype);
+    octets::put_big(out, p + 2, class);
+    len
+}
+
+// The head of a reply: the query's ID, and whether C and T are set.
+pub struct ReplyHead {
+    pub id: u16,
+    pub conflict: bool,
+    pub tentative: bool,
+}
+
+// The flags of a reply: QR is set, then C, TC and T as given.
+fn reply_flags(conflict: bool, truncated: bool, tentative: bool) -> [u8; 2]
+    ensures { λ r. ⌜ r ≡ replyFlags conflict truncated tentative ⌝ }
+{
+    if conflict {
+        if truncated {
+            if tentative {
+                *b"\x87\x00"
+            } else {
+                *b"\x86\x00"
+            }
+        } else {
+            if tentative {
+                *b"\x85\x00"
+            } else {
+                *b"\x84\x00"
+            }
+        }
+    } else {
+        if truncated {
+            if tentative {
+                *b"\x83\x00"
+            } else {
+                *b"\x82\x00"
+            }
+        } else {
+            if tentative {
+                *b"\x81\x00"
+            } else {
+                *b"\x80\x00"
+            }
+        }
+    }
+}
+
+// Whether a question of a type asks for records of a type.
+fn is_asked(qtype: u16, rtype: u16) -> bool
+    ensures { λ r. ⌜ r ≡ isAsked qtype rtype ⌝ }
+{
+    if rtype == qtype {
+        return true;
+    }
+    if qtype == ResourceRecord::ANY {
+        true
+    } else {
+        false
+    }
+}
+
+// Writes an answer at the start of a part that has room: its owner is a pointer to the question's name.
+fn put_answer(part: &mut [u8], rtype: u16, rdata: &[u8])
+    requires { ⌜ (ownerOctets + fixedOctets + length (now rdata) ≤ length (now part)) × (length (now rdata) < 65536) ⌝ }
+    ensures { λ r. ⌜ now (part .exit) ≡ splice (now (part .entry)) 0 (answerOctets (record { rtype = rtype; octets = now (rdata .entry) })) ⌝ }
+{
+    octets::put_octets(part, 0, b"\xc0\x0c");
+    octets::put_big(part, 2, rtype);
+    octets::put_big(part, 4, ResourceRecord::IN);
+    octets::put_big(part, 6, 0);
+    octets::put_big(part, 8, ResourceRecord::TTL);
+    octets::put_big(part, 10, rdata.len() as u16);
+    octets::put_octets(part, 12, rdata);
+}
+
+// Where the answers end, how many there are, and whether one was left out.
+pub struct Answers {
+    pub end: usize,
+    pub count: u16,
+    pub cut: bool,
+}
+
+// Writes the answers of a name whose records begin at an offset of the table, after the octets used, until the first that would
+// pass the limit.
+fn put_answers(
+    out: &mut [u8],
+    limit: usize,
+    qtype: u16,
+    used: usize,
+    table: &[u8],
+    at: usize,
+) -> Answers
+    requires { ⌜ (limit ≤ length (now out)) × (limit < 65536) × (used ≤ limit) ⌝ }
+    ensures { λ r. ⌜ Filled r used (now (out .entry)) (now (out .exit)) (takenFrom limit qtype used (answersIn (now (table .entry)) at)) ⌝ }
+{
+    let mut end = used;
+    let mut count: u16 = 0;
+    let mut p = at;
+    loop {
+        let read = name_table::record_at(table, p);
+        let name_table::RecordRead::Good(r) = read else {
+            return Answers {
+                end: end,
+                count: count,
+                cut: false,
+            };
+        };
+        let start = r.start;
+        p = r.end;
+        if is_asked(qtype, r.rtype) {
+            let rdata = octets::part(table, start, p);
+            let size = ResourceRecord::ANSWER + rdata.len();
+            if octets::runs_past(limit, end, size) {
+                return Answers {
+                    end: end,
+                    count: count,
+                    cut: true,
+                };
+            }
+            put_answer(&mut out[end..], r.rtype, rdata);
+            end = end + size;
+            count = count + 1;
+        }
+    }
+}
+
+// Writes a reply: the question's octets as received, then the records of a name that its type asks for, from an offset of the
+// table on, as many as the limit lets in. Gives its length; nothing is written, and the length is 0, where there is no room.
+pub fn write_reply(
+    out: &mut [u8],
+    limit: u16,
+    head: ReplyHead,
+    question: &[u8],
+    qtype: u16,
+    table: &[u8],
+    at: usize,
+) -> usize
+    ensures { λ r. ⌜ record { len = r; octets = now (out .exit) } ≡ replyWritten (now (out .entry)) limit head (now (question .entry)) qtype (answersIn (now (table .entry)) at) ⌝ }
+{
+    let room = limit as usize;
+    let used = Header::OCTETS + question.len();
+    if out.len() < room {
+        return 0;
+    }
+    if room < used {
+        return 0;
+    }
+    octets::put_octets(out, Header::OCTETS, question);
+    let answers = put_answers(out, room, qtype, used, table, at);
+    let flags = reply_flags(head.conflict, answers.cut, head.tentative);
+    octets::put_big(out, 0, head.id);
+    octets::put_octets(out, 2, &flags);
+    octets::put_octets(out, 4, b"\x00\x01");
+    octets::put_big(out, 6, answers.count);
+    octets::put_octets(out, 8, b"\x00\x00\x00\x00");
+    answers.end
+}
