@@ -1,0 +1,82 @@
+// Writes replies to questions for scale3 from tables of many addresses, and prints how many octets and answers each has and
+// whether TC is set.
+use libc::STDOUT_FILENO;
+use message::HeaderRead;
+use message::ReplyHead;
+
+fn text(octets: &[u8]) {
+    io::write_all(STDOUT_FILENO, octets);
+}
+
+fn number(n: usize) {
+    io::print_decimal(STDOUT_FILENO, n as u64);
+}
+
+// Writes n entries with one AAAA record each, from an offset on.
+fn put_aaaa(table: &mut [u8], n: u8) {
+    let mut i: u8 = 0;
+    while i < n {
+        let at = 12 + (i as usize) * 20;
+        octets::put_octets(table, at, b"\x14\x00\x04\x00\x20\x01\x0d\xb8\x00\x00\x00\x00\x00\x00\x00\x00\x00\x00\x00\x01");
+        i = i + 1;
+    }
+}
+
+// Writes n entries with one A record each, after so many AAAA records.
+fn put_a(table: &mut [u8], aaaa: u8, n: u8) {
+    let mut i: u8 = 0;
+    while i < n {
+        let at = 12 + (aaaa as usize) * 20 + (i as usize) * 8;
+        octets::put_octets(table, at, b"\x08\x00\x03\x00\xc0\x00\x02\x11");
+        i = i + 1;
+    }
+}
+
+fn print_head(reply: &[u8]) {
+    let read = message::read_header(reply);
+    let HeaderRead::Good(h) = read else {
+        text(b" no header\n");
+        return;
+    };
+    text(b" answers ");
+    number(h.answers as usize);
+    if h.truncated {
+        text(b" TC set\n");
+    } else {
+        text(b" TC clear\n");
+    }
+}
+
+// A table with scale3 and so many records of each type, asked by a question.
+fn print_case(aaaa: u8, a: u8, question: &[u8], qtype: u16) {
+    let mut table = [0u8; 1024];
+    octets::put_octets(&mut table, 0, b"\x0c\x00\x01\x00\x06scale3\x00");
+    put_aaaa(&mut table, aaaa);
+    put_a(&mut table, aaaa, a);
+    let end = 12 + (aaaa as usize) * 20 + (a as usize) * 8;
+    let mut out = [0u8; 512];
+    let head = ReplyHead {
+        id: 0x1234,
+        conflict: false,
+        tentative: false,
+    };
+    let len = message::write_reply(&mut out, 512, head, question, qtype, octets::part(&table, 0, end), 12);
+    number(aaaa as usize);
+    text(b" AAAA ");
+    number(a as usize);
+    text(b" A: octets ");
+    number(len);
+    print_head(octets::part(&out, 0, len));
+}
+
+fn main() {
+    let aaaa = b"\x06scale3\x00\x00\x1c\x00\x01";
+    let any = b"\x06scale3\x00\x00\xff\x00\x01";
+    print_case(17, 0, aaaa, 28);
+    print_case(18, 0, aaaa, 28);
+    print_case(18, 3, aaaa, 28);
+    print_case(10, 13, any, 255);
+    print_case(10, 14, any, 255);
+    print_case(10, 14, aaaa, 28);
+    print_case(0, 5, aaaa, 28);
+}
