@@ -1,12 +1,19 @@
 -- Every case of the list holds, by computation.
 use mathlib.Core.Path.{refl}
-use Rattle.octets.specs.Octets.{partOf}
+use Rattle.octets.specs.Octets.{partOf, splice, put}
+use Rattle.octets.specs.Addresses.{sameOctets, sameAddress, groupOf, isGroup, hasAddress, oursAmong}
+use Rattle.refusal.specs.Checks.{verdict}
 use Rattle.names.specs.NameWalk.{nameFrom}
 use Rattle.names.specs.Folding.{folded, sameName}
 use Rattle.name_table.specs.Kinds.{kindOf}
 use Rattle.name_table.specs.Check.{isWhole, nameFills, nameForm, recordForm, formBy, formAt, findFrom, step, from, checkTable}
+use Rattle.name_table.specs.Records.{recordBy, recordAt, recordsFrom}
+use Rattle.message.specs.Header.{headerOf}
+use Rattle.message.specs.Question.{questionAt}
+use Rattle.message.specs.Reply.{takenFrom, replyOctets, replyWritten}
+use Rattle.responder.specs.Receive.{receive}
 use Rattle.examples.specs.Cases.{AllHold, cases}
 
 pub all-hold : AllHold cases
-unfolding partOf nameFrom folded sameName kindOf isWhole nameFills nameForm recordForm formBy formAt findFrom step from checkTable
-all-hold = (refl, (refl, (refl, tt)))
+unfolding partOf splice put sameOctets sameAddress groupOf isGroup hasAddress oursAmong verdict nameFrom folded sameName kindOf isWhole nameFills nameForm recordForm formBy formAt findFrom step from checkTable recordBy recordAt recordsFrom headerOf questionAt takenFrom replyOctets replyWritten receive
+all-hold = (refl, (refl, (refl, (refl, (refl, (refl, (refl, (refl, (refl, (refl, tt))))))))))

@@ -1,16 +1,29 @@
 -- Document 01's examples marked P: a list of cases, each a call and what it gives.
-use Prim.Native.Nat.{ℕ}
+use Prim.Native.Nat.{ℕ, _-_}
 use mathlib.Core.Path.{_≡_}
 use mathlib.Core.List.{List, [], _∷_, _++_}
-use lib.ListN.{take}
+use lib.ListN.{length, take, replicate}
+use Rattle.octets.specs.declared.Endpoint.{Endpoint}
+use Rattle.octets.specs.Addresses.{groupOf}
+use Rattle.refusal.specs.Numbers.{number}
 use Rattle.name_table.specs.Check.{Checked, good, bad, checkTable}
+use Rattle.responder.specs.declared.NameState.{NameState}
+use Rattle.responder.specs.declared.NameState.the-variants.{Verifying, Unique}
+use Rattle.responder.specs.declared.Host.{Host}
+use Rattle.responder.specs.State.{offName, withClock}
+use Rattle.responder.specs.SetUp.{freshInterface, zeroSetting}
+use Rattle.responder.specs.Outcomes.{Done, refused, reply, nowhere}
+use Rattle.responder.specs.Receive.{Arrival, receive}
 
 pub data Case : Type 0 where
   -- the check of a table
   table : List ℕ → Checked → Case
+  -- a datagram received by a host
+  received : Host → Arrival → Done → Case
 
 abbrev pub Holds : Case → Type 0
 Holds (table s c) = checkTable s ≡ c
+Holds (received h a d) = receive h a ≡ d
 
 abbrev pub AllHold : List Case → Type 0
 AllHold [] = Unit
@@ -24,6 +37,69 @@ abbrev pub S : List ℕ
 S =
     (0x0c ∷ 0x00 ∷ 0x01 ∷ 0x00 ∷ []) ++ scale3 ++ (0x08 ∷ 0x00 ∷ 0x03 ∷ 0x00 ∷ 0xc0 ∷ 0x00 ∷ 0x02 ∷ 0x11 ∷ [])
 
+-- a host whose interface 0 has 192.0.2.17 and 100 ms, with name 0 in some state
+abbrev pub host : NameState → Host
+host state =
+    record {
+      interfaces =
+          record {
+            setting = record { family = 4; address = 0xc0 ∷ 0x00 ∷ 0x02 ∷ 0x11 ∷ replicate 12 0; interval = 100 };
+            names = record { state = state } ∷ replicate 7 offName;
+          }
+          ∷ replicate 3 (freshInterface zeroSetting);
+      clock = 7;
+    }
+
+abbrev pub verifying : NameState
+verifying = Verifying 1 0x0009 (record { due = 107 })
+
+-- a query for scale3 or SCALE3, type and class: ID 12 34, then the flags, QDCOUNT and ARCOUNT of the case
+abbrev pub question : List ℕ
+question = scale3 ++ (0x00 ∷ 0x01 ∷ 0x00 ∷ 0x01 ∷ [])
+
+abbrev pub SCALE3 : List ℕ
+SCALE3 = 0x06 ∷ 0x53 ∷ 0x43 ∷ 0x41 ∷ 0x4c ∷ 0x45 ∷ 0x33 ∷ 0x00 ∷ 0x00 ∷ 0x01 ∷ 0x00 ∷ 0x01 ∷ []
+
+abbrev pub question28 : List ℕ
+question28 = scale3 ++ (0x00 ∷ 0x1c ∷ 0x00 ∷ 0x01 ∷ [])
+
+abbrev pub query : ℕ → ℕ → ℕ → List ℕ → List ℕ
+query flags questions additionals q =
+    (0x12 ∷ 0x34 ∷ flags ∷ 0x00 ∷ 0x00 ∷ questions ∷ 0x00 ∷ 0x00 ∷ 0x00 ∷ 0x00 ∷ 0x00 ∷ additionals ∷ []) ++ q
+
+abbrev pub buffer : List ℕ
+buffer = replicate 512 0xa5
+
+abbrev pub querier : Endpoint
+querier =
+    record { address = record { family = 4; octets = 0xc0 ∷ 0x00 ∷ 0x02 ∷ 0x63 ∷ replicate 12 0 }; port = 49152 }
+
+abbrev pub arrival : List ℕ → Arrival
+arrival datagram =
+    record { table = S; interface = 0; from = querier; to = groupOf 4; datagram = datagram; time = 8; id = 77; out = buffer }
+
+-- a reply went back to the querier, and the buffer's octets after it are as they were
+abbrev pub replied : NameState → List ℕ → Done
+replied state octets =
+    record {
+      host = withClock (host state) 8;
+      result = reply (length octets);
+      to = querier;
+      octets = octets ++ replicate (512 - length octets) 0xa5;
+    }
+
+-- a refusal leaves the state and the buffer
+abbrev pub turnedAway : NameState → ℕ → Done
+turnedAway state n = record { host = host state; result = refused (number n); to = nowhere; octets = buffer }
+
+abbrev pub answer : List ℕ
+answer =
+    0xc0 ∷ 0x0c ∷ 0x00 ∷ 0x01 ∷ 0x00 ∷ 0x01 ∷ 0x00 ∷ 0x00 ∷ 0x00 ∷ 0x1e ∷ 0x00 ∷ 0x04 ∷ 0xc0 ∷ 0x00 ∷ 0x02 ∷ 0x11 ∷ []
+
+abbrev pub head : ℕ → ℕ → List ℕ
+head flags answers =
+    0x12 ∷ 0x34 ∷ flags ∷ 0x00 ∷ 0x00 ∷ 0x01 ∷ 0x00 ∷ answers ∷ 0x00 ∷ 0x00 ∷ 0x00 ∷ 0x00 ∷ []
+
 abbrev pub cases : List Case
 cases =
     -- S is good: its one name is unique and stands from 4 up to 12
@@ -32,4 +108,18 @@ cases =
     ∷ table (take 19 S) (bad 12)
     -- S twice is refused at 20
     ∷ table (S ++ S) (bad 20)
+    -- the query, name Unique: 40 octets
+    ∷ received (host Unique) (arrival (query 0x00 1 0 question)) (replied Unique (head 0x80 1 ++ question ++ answer))
+    -- Verifying: flags 81 00
+    ∷ received (host verifying) (arrival (query 0x00 1 0 question)) (replied verifying (head 0x81 1 ++ question ++ answer))
+    -- type 28: 24 octets, ANCOUNT 0
+    ∷ received (host Unique) (arrival (query 0x00 1 0 question28)) (replied Unique (head 0x80 0 ++ question28))
+    -- SCALE3 is answered as SCALE3
+    ∷ received (host Unique) (arrival (query 0x00 1 0 SCALE3)) (replied Unique (head 0x80 1 ++ SCALE3 ++ answer))
+    -- flags 04 00, Verifying: 14
+    ∷ received (host verifying) (arrival (query 0x04 1 0 question)) (turnedAway verifying 14)
+    -- ARCOUNT 5 with nothing after: answered
+    ∷ received (host Unique) (arrival (query 0x00 1 5 question)) (replied Unique (head 0x80 1 ++ question ++ answer))
+    -- QDCOUNT 2: 9
+    ∷ received (host Unique) (arrival (query 0x00 2 0 question)) (turnedAway Unique 9)
     ∷ []

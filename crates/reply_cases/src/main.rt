@@ -17,7 +17,11 @@ fn put_aaaa(table: &mut [u8], n: u8) {
     let mut i: u8 = 0;
     while i < n {
         let at = 12 + (i as usize) * 20;
-        octets::put_octets(table, at, b"\x14\x00\x04\x00\x20\x01\x0d\xb8\x00\x00\x00\x00\x00\x00\x00\x00\x00\x00\x00\x01");
+        octets::put_octets(
+            table,
+            at,
+            b"\x14\x00\x04\x00\x20\x01\x0d\xb8\x00\x00\x00\x00\x00\x00\x00\x00\x00\x00\x00\x01",
+        );
         i = i + 1;
     }
 }
@@ -60,7 +64,15 @@ fn print_case(aaaa: u8, a: u8, question: &[u8], qtype: u16) {
         conflict: false,
         tentative: false,
     };
-    let len = message::write_reply(&mut out, 512, head, question, qtype, octets::part(&table, 0, end), 12);
+    let len = message::write_reply(
+        &mut out,
+        512,
+        head,
+        question,
+        qtype,
+        octets::part(&table, 0, end),
+        12,
+    );
     number(aaaa as usize);
     text(b" AAAA ");
     number(a as usize);
