@@ -1,25 +1,21 @@
 -- A list of calls as the statement has it is a run of the system, and back.
 use mathlib.Core.Path.{_≡_, refl, sym, _∙_, ap, subst, fun-ext}
-use mathlib.Core.Logic.{_≢_, _⊎_, inl, inr}
 use mathlib.Core.Bool.{Bool, true, false, cond, not}
-use mathlib.Core.List.{List, [], _∷_, _++_, map, List·Memᴰ}
-use Prim.Native.Nat.{ℕ, zero, suc, _+_, _≤_, _<_}
+use mathlib.Core.List.{List, [], _∷_, _++_, map}
+use Prim.Native.Nat.{ℕ, zero, suc, _+_}
 use native.Mathlib.Decide.{ℕ-discrete}
-use native.Mathlib.Omega.{arith}
 use lib.Dec.{eqb}
 use borrow.Author.Tests.{eq-eqb, ne-eqb}
-use Rattle.octets.specs.declared.Address.{Address}
-use Rattle.octets.specs.declared.Endpoint.{Endpoint}
 use Rattle.responder.specs.declared.Host.{Host}
 use Rattle.responder.specs.Outcomes.{Done, Result, refused as Refused, ready as Ready, quiet as Quiet, kept as Kept, query as Query, reply as Reply, unique as Unique, shared as Shared, stopped as Stopped}
 use Rattle.uniqueness.specs.Link as Spec
-use Rattle.uniqueness.specs.Link.{Sort, sort, sortOf, Link, Lent, Receipt, update, Request, starts, ticks, Call, sent, those, receivers, Datagram, datagrams, isRefused, isQuery, Moment, after, startedAfter, Observed, StartRule, Settled, OneByOne, Conditions, received, Delivered, Keeps}
+use Rattle.uniqueness.specs.Link.{sort, sortOf, Link, Lent, Receipt, update, Request, starts, ticks, Call, those, receivers, Datagram, datagrams, isRefused, isQuery, Moment, after, Observed, StartRule, Settled, OneByOne, Conditions, received, Delivered, Keeps}
 use Rattle.uniqueness.proofs.Model.{LinkModel, Put, unless, Event, start, tick, time, host}
 use Rattle.uniqueness.proofs.Inv.{by}
-use Rattle.uniqueness.proofs.Sys.{Out, nothing, ask, tell, Res, Sys, Packet, broadcast, packets, CDeliver, got, CWorld, Kind, isVerifying, isOff, LastIs, result, Starts, CStep, CRun, CSettled, CSerial}
+use Rattle.uniqueness.proofs.Sys.{Sys, Packet, broadcast, packets, CDeliver, got, CWorld, Kind, isVerifying, isOff, LastIs, result, Starts, CStep, CRun, CSettled, CSerial}
 use Rattle.uniqueness.proofs.Lift.{F2, fnil, fcons, f2-app, f2-split, f2-flip, f2-flop, nil-inv}
 use Rattle.uniqueness.proofs.Obligations.{top, Obligations}
-use Rattle.uniqueness.proofs.Hosts.{Sent, outOf, sentOf, res, Inputs, obs, linkModel, Y, seen, Good}
+use Rattle.uniqueness.proofs.Hosts.{Sent, outOf, sentOf, res, Inputs, obs, linkModel, Y, Good}
 
 pub put-update : {A : Type 0} (f : ℕ → A) (k : ℕ) (a : A) → Put f k a (update f k a)
 put-update f k a = record {

@@ -1,11 +1,11 @@
 -- What one event does to the states: one of four things.
-use mathlib.Core.Path.{_≡_, refl, sym, _∙_}
-use mathlib.Core.Logic.{_≢_, _⊎_, inl, inr}
-use mathlib.Core.List.{List, [], _∷_}
-use Prim.Native.Nat.{ℕ, zero, suc, _+_, _≤_, _<_}
+use mathlib.Core.Path.{_≡_, refl}
+use mathlib.Core.Logic.{_≢_}
+use mathlib.Core.List.{List}
+use Prim.Native.Nat.{ℕ, suc, _+_, _≤_, _<_}
 use native.Mathlib.Omega.{arith}
-use Rattle.uniqueness.proofs.Model.{St, off, ver, uniq, stopped, LinkModel, Put, Send, send, World, Event, start, tick, time, host, OnTime, Act, begin, refused, again, won, other, quiet, Step}
-use Rattle.uniqueness.proofs.Deliver.{Beats, by-uniq, by-low, Sent, sent, sent-else}
+use Rattle.uniqueness.proofs.Model.{St, off, ver, uniq, stopped, LinkModel, Put, Send, World, Event, time, host, OnTime, Act, begin, refused, again, won, other, quiet, Step}
+use Rattle.uniqueness.proofs.Deliver.{Beats, Sent, sent, sent-else}
 
 -- h sends its query number s at time t: its first, or the next one, when it is due
 pub data From (σ : ℕ → St) (h t s : ℕ) : Type 0 where

@@ -3,11 +3,11 @@ use mathlib.Core.Path.{_≡_, refl, sym, _∙_, ap, subst}
 use mathlib.Core.Logic.{_≢_, _⊎_, inl, inr}
 use mathlib.Core.Bool.{Bool, true, false}
 use mathlib.Core.List.{List, [], _∷_, _++_, List·Memᴰ, List·Memᴰ·head, List·Memᴰ·tail, List·Memᴰ·not-nil, List·Memᴰ·cases-cons, List·Memᴰ·append-cases, List·Memᴰ·eq-of-singleton, Memᴰ·append-left, Memᴰ·append-right}
-use Prim.Native.Nat.{ℕ, zero, suc, _+_, _≤_, _<_}
+use Prim.Native.Nat.{ℕ, zero, suc, _+_, _<_}
 use native.Mathlib.Decide.{ℕ-discrete, decLt}
 use native.Mathlib.Omega.{arith}
 use native.Mathlib.Nat.{le-of-suc-le-suc, eq-or-lt-of-le}
-use Rattle.uniqueness.proofs.Model.{St, off, ver, uniq, stopped, LinkModel, Msg, query, reply, answer, afterReply, yield, Put, Deliver, done, asked, taken-in, queries, unless, Send, send}
+use Rattle.uniqueness.proofs.Model.{St, off, ver, uniq, stopped, LinkModel, Msg, query, reply, answer, afterReply, yield, Deliver, done, asked, taken-in, queries, unless, Send, send}
 
 -- host k's answer stops the asker a
 pub data Beats (H : LinkModel) (σ : ℕ → St) (a k : ℕ) : Type 0 where

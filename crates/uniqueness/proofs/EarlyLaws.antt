@@ -9,6 +9,7 @@ use lib.ListN.{getD, length, take, drop}
 use lib.Seq.{take-at}
 use lib.Dec.{leb}
 use borrow.Author.Tests.{ne-eqb, le-ltb, lt-leb, leb-false}
+use Rattle.responder.specs.Bounds.{room as roomOctets}
 use Rattle.octets.specs.declared.Setting.{Setting}
 use Rattle.octets.specs.Addresses.{groupEndpoint}
 use Rattle.octets.proofs.Tests.{split}
@@ -50,7 +51,7 @@ module _ (L : Link) (s : Station) (o : OnLink L s) where
       let u = o .unused i h ne in
       rw (p, other-at s (o .four) (o .used) (few-is L s o) x clock i ne, ne-eqb _ _ (u .0), ne-eqb _ _ (u .1))
 
-  module _ (c : Conditions L) (x : NameState) (clock t : ℕ) (out : List ℕ) (room : 512 ≤ length out) (f : clock ≤ t) (g : t ≤ top) where
+  module _ (c : Conditions L) (x : NameState) (clock t : ℕ) (out : List ℕ) (room : roomOctets ≤ length out) (f : clock ≤ t) (g : t ≤ top) where
     some-interface : noInterface (hostWith s x clock) (s .interface) ≡ false
     some-interface = rw (lt-leb _ _ (o .used), setting-is x clock, used-family L s o c)
 
@@ -62,7 +63,7 @@ module _ (L : Link) (s : Station) (o : OnLink L s) where
     early-passes r =
         next (le-ltb _ _ room) (next (ap isBad (o .unique .read)) (next some-interface (next good-clock r)))
 
-  pub early-unused : (x : NameState) (clock i t : ℕ) (out : List ℕ) (rest : Checks) → 512 ≤ length out → i ≢ s .interface
+  pub early-unused : (x : NameState) (clock i t : ℕ) (out : List ℕ) (rest : Checks) → roomOctets ≤ length out → i ≢ s .interface
       → Gives (early (hostWith s x clock) (s .table) i t out rest) (refused (number 3))
   early-unused x clock i t out rest room ne =
       next (le-ltb _ _ room) (next (ap isBad (o .unique .read)) (stop (no-interface x clock i ne)))
@@ -74,7 +75,7 @@ module _ (L : Link) (s : Station) (o : OnLink L s) where
     timer-from x clock t =
         ap (λ (i : Setting). timerFrom i t) (setting-is x clock) ∙ ap (λ (n : ℕ). record { due = t + n }) (timer-is L s o c)
 
-    pub goes-out : (id : ℕ) (h : Host) (out : List ℕ) → 512 ≤ length out
+    pub goes-out : (id : ℕ) (h : Host) (out : List ℕ) → roomOctets ≤ length out
         → Asked L (o .spelling) id h (querying h (settingOf s (s .interface)) (s .name) (checkQuery id (o .spelling)) out)
     unfolding groupEndpoint
     goes-out id h out room =

@@ -3,13 +3,13 @@ use mathlib.Core.Path.{_≡_, refl, sym, _∙_, ap}
 use mathlib.Core.Logic.{_≢_, _⊎_, inl, inr}
 use mathlib.Core.Bool.{Bool, true, false}
 use mathlib.Core.List.{List, [], _∷_, _++_, List·Memᴰ, List·Memᴰ·not-nil, List·Memᴰ·cases-cons}
-use Prim.Native.Nat.{ℕ, zero, suc, _+_, _*_, _≤_, _<_}
-use native.Mathlib.Decide.{ℕ-discrete, decLt}
+use Prim.Native.Nat.{ℕ, zero, suc, _+_, _≤_, _<_}
+use native.Mathlib.Decide.{ℕ-discrete}
 use native.Mathlib.Omega.{arith}
-use Rattle.uniqueness.proofs.Model.{St, off, ver, uniq, stopped, LinkModel, Msg, query, reply, answer, afterReply, Deliver, done, asked, taken-in, queries, Put, upd, put, Send, send, World, Event, start, tick, time, host, OnTime, Act, begin, refused, again, won, quiet, Step, Run, stay, then, Fresh, Settled, Holds, OneHolder, Serial}
-use Rattle.uniqueness.proofs.Deliver.{Sent, sent, sent-else}
-use Rattle.uniqueness.proofs.Inv.{Inv, by, inv-run, inv-fresh}
-use Rattle.uniqueness.proofs.Serial.{Lone, Held, alone-sends, held-stops, lone-only, held-none, first-holds}
+use Rattle.uniqueness.proofs.Model.{St, off, ver, uniq, stopped, LinkModel, Msg, query, reply, answer, afterReply, Deliver, done, asked, taken-in, queries, upd, put, Send, send, World, Event, start, tick, time, OnTime, begin, again, won, Step, Run, stay, then, Fresh, Settled, Holds, Serial}
+use Rattle.uniqueness.proofs.Deliver.{sent-else}
+use Rattle.uniqueness.proofs.Inv.{by, inv-run, inv-fresh}
+use Rattle.uniqueness.proofs.Serial.{Lone, Held, alone-sends, held-stops, lone-only, held-none}
 
 -- every delivery can be made to its end
 module _ (H : LinkModel) (a : ℕ) where

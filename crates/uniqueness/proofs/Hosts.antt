@@ -1,40 +1,37 @@
 -- The delivered calls as a system of the lifting, and its refinement of the model from the obligations.
 use mathlib.Core.Path.{_≡_, refl, sym, _∙_, ap, subst}
-use mathlib.Core.Logic.{_≢_, _⊎_, inl, inr}
+use mathlib.Core.Logic.{_≢_}
 use mathlib.Core.Bool.{Bool, true, false, cond, not}
 use mathlib.Core.List.{List, [], _∷_, map}
 use Prim.Native.Nat.{ℕ, zero, suc, _+_, _%_, _≤_, _<_}
 use native.Mathlib.Decide.{ℕ-discrete, decLt}
 use native.Mathlib.Omega.{arith}
-use lib.ListN.{getD, set, take, length, length-map, replicate, length-replicate}
+use lib.ListN.{getD, take, length, length-map, replicate, length-replicate}
 use lib.Seq.{getD-set-same}
 use lib.Dec.{eqb}
-use borrow.Author.Tests.{eq-eqb, ne-eqb}
 use Rattle.octets.specs.declared.Address.{Address}
 use Rattle.octets.specs.declared.Endpoint.{Endpoint}
-use Rattle.octets.specs.declared.Setting.{Setting}
-use Rattle.responder.specs.declared.Timer.{Timer}
 use Rattle.responder.specs.declared.NameState.{NameState}
 use Rattle.responder.specs.declared.NameState.the-variants.{Off, Verifying, Defending}
 use Rattle.responder.specs.declared.NameState.the-variants.{Unique as IsUnique, Stopped as HasStopped}
 use Rattle.responder.specs.declared.Name.{Name}
 use Rattle.responder.specs.declared.Interface.{Interface}
 use Rattle.responder.specs.declared.Host.{Host}
-use Rattle.refusal.specs.Numbers.{Told, numberIn}
+use Rattle.refusal.specs.Numbers.{Told}
 use Rattle.responder.specs.Outcomes.{Done, Result, refused as Refused, ready as Ready, quiet as Quiet, kept as Kept, query as Query, reply as Reply, unique as Unique, shared as Shared, stopped as Stopped}
 use Rattle.octets.specs.Octets.{Octets}
-use Rattle.octets.specs.Addresses.{sameAddress, belowAddress, groupOf}
+use Rattle.octets.specs.Addresses.{belowAddress, groupOf}
 use Rattle.responder.specs.State.{offName}
 use Rattle.responder.specs.Start.{checkQuery, start}
 use Rattle.responder.specs.Tick.{tick}
 use Rattle.responder.specs.Receive.{receive}
 use Rattle.uniqueness.specs.Link as Spec
-use Rattle.uniqueness.specs.Link.{Sort, sort, sortOf, Station, settingOf, Link, addressOf, Lent, Receipt, sent, sentLength, those, hasAddress, isRefused, Moment, Observed, ofSort, ofNumber, ofReply, SameName, OnLink, Conditions, Probe, received, observed, Every, Some}
+use Rattle.uniqueness.specs.Link.{sort, Station, Link, addressOf, Lent, Receipt, sent, sentLength, those, hasAddress, isRefused, Moment, Observed, ofSort, ofNumber, ofReply, SameName, Conditions, Probe, received, observed}
 use Rattle.uniqueness.proofs.Model.{St, off, ver, uniq, stopped, LinkModel, afterReply, yield}
 use Rattle.uniqueness.proofs.Inv.{by}
 use Rattle.uniqueness.proofs.Sys.{Out, nothing, ask, tell, Res, Sys, Kind, isOff, isVerifying, isOwning, isStopped, kind, Asks, Tells, Answers, Ticked, Refines}
 use Rattle.uniqueness.proofs.Order.{rankOf, below-lt, not-below-le, same-of-rank, same-refl, both-no}
-use Rattle.uniqueness.proofs.Obligations.{top, unstarted, inUse, hostWith, verifying, Asked, Replied, Turned, Taken, Meets, Obligations, Waits}
+use Rattle.uniqueness.proofs.Obligations.{top, unstarted, inUse, hostWith, verifying, Asked, Replied, RefusedWith, Taken, Meets, Obligations, Waits}
 
 -- 1. ONE HOST'S STATE
 
@@ -126,10 +123,10 @@ back-obs isStopped = refl
 pub obs-inj : (x y : Kind) → obs x ≡ obs y → x ≡ y
 obs-inj x y e = sym (back-obs x) ∙ ap back e ∙ back-obs y
 
-turned-tells : {n : ℕ} {h : Host} {d : Done} → Turned n h d → ofSort (sort (d .result)) (sent d) ≡ ofNumber n
+turned-tells : {n : ℕ} {h : Host} {d : Done} → RefusedWith n h d → ofSort (sort (d .result)) (sent d) ≡ ofNumber n
 turned-tells {n} {h} {d} T = ap (λ (o : Result). ofSort (sort o) (sent d)) (T .outcome) ∙ ap ofNumber (T .is)
 
-turned-out : {n : ℕ} {h : Host} {d : Done} → Turned n h d → res d .out ≡ nothing
+turned-out : {n : ℕ} {h : Host} {d : Done} → RefusedWith n h d → res d .out ≡ nothing
 turned-out {d = d} T = ap (λ (o : Result). outOf o (sentOf d)) (T .outcome)
 
 taken-out : {h : Host} {o : Result} {d : Done} → Taken h o d → outOf o (sentOf d) ≡ nothing → res d .out ≡ nothing
@@ -295,7 +292,7 @@ module _ (O : Obligations) (L : Link) (C : Conditions L) where
   asked-taken : {sp : List ℕ} {id : ℕ} {h : Host} {d : Done} → Asked L sp id h d → res d .taken ≡ true
   asked-taken A = ap (λ (o : Result). not (isRefused (sort o))) (A .outcome)
 
-  turned-not : {A : Type 0} {n : ℕ} {h : Host} {d : Done} → Turned n h d → res d .taken ≡ true → A
+  turned-not : {A : Type 0} {n : ℕ} {h : Host} {d : Done} → RefusedWith n h d → res d .taken ≡ true → A
   turned-not T e = both-no e (ap (λ (o : Result). not (isRefused (sort o))) (T .outcome))
 
   -- start
@@ -336,7 +333,7 @@ module _ (O : Obligations) (L : Link) (C : Conditions L) where
           )
 
   -- a refused call, or one that sends nothing, leaves a state that stands for s′
-  turned-rep : (k t : ℕ) (s : St) (n id clock : ℕ) (d : Done) → id < 65536 → clock ≤ t → Turned n (hostWith (st k) (stateOf s id) clock) d
+  turned-rep : (k t : ℕ) (s : St) (n id clock : ℕ) (d : Done) → id < 65536 → clock ≤ t → RefusedWith n (hostWith (st k) (stateOf s id) clock) d
       → Rep k t s (res d .next) × (res d .out ≡ nothing)
   turned-rep k t s n id clock d f e T = (rep-of k t s id clock (d .host) f e (T .host), turned-out T)
 

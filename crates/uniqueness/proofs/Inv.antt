@@ -1,12 +1,12 @@
 -- The invariant of a link.
-use mathlib.Core.Path.{_≡_, refl, sym, _∙_, ap}
-use mathlib.Core.Logic.{_≢_, _⊎_, inl, inr}
-use mathlib.Core.List.{List, [], _∷_}
-use Prim.Native.Nat.{ℕ, zero, suc, _+_, _*_, _≤_, _<_}
+use mathlib.Core.Path.{_≡_, sym, _∙_, ap}
+use mathlib.Core.Logic.{_≢_}
+use mathlib.Core.List.{List}
+use Prim.Native.Nat.{ℕ, suc, _+_, _*_, _≤_, _<_}
 use native.Mathlib.Decide.{ℕ-discrete, decLt}
 use native.Mathlib.Omega.{arith}
 use native.Mathlib.Nat.{le-of-mul-le-mul-right, mul-le-mul-right}
-use Rattle.uniqueness.proofs.Model.{St, off, ver, uniq, stopped, LinkModel, Put, World, Event, time, OnTime, Step, Run, stay, then, Fresh}
+use Rattle.uniqueness.proofs.Model.{St, ver, uniq, stopped, LinkModel, Put, World, Event, time, Step, Run, stay, then, Fresh}
 use Rattle.uniqueness.proofs.Deliver.{Beats, by-uniq, by-low}
 use Rattle.uniqueness.proofs.Change.{From, fresh, more, Change, same, turns-unique, loses, checks, change}
 

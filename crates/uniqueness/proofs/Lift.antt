@@ -1,18 +1,16 @@
 -- A delivery, a step and a run of hosts that refine the model are a delivery, a step and a run of the model.
-use mathlib.Core.Path.{_≡_, refl, sym, _∙_, ap, subst}
+use mathlib.Core.Path.{_≡_, refl, sym, _∙_, ap}
 use mathlib.Core.Logic.{_≢_, _⊎_, inl, inr}
 use mathlib.Core.Bool.{Bool, true, false}
 use mathlib.Core.List.{List, [], _∷_, _++_, List·Memᴰ, List·Memᴰ·head, List·Memᴰ·tail, List·Memᴰ·not-nil, List·Memᴰ·cases-cons}
 use Prim.Native.Nat.{ℕ, zero, suc, _+_, _≤_, _<_}
 use native.Mathlib.Decide.{ℕ-discrete}
 use native.Mathlib.Omega.{arith}
-use Rattle.uniqueness.proofs.Model.{St, off, ver, uniq, stopped, LinkModel, Msg, query, reply, answer, afterReply, Deliver, asked, taken-in, queries, unless, Put, upd, put, Send, send, World, Event, start, tick, time, host, OnTime, Act, begin, again, won, other, Step, Run, Fresh, Settled, Holds, OneHolder, Any, Serial}
+use Rattle.uniqueness.proofs.Model.{St, off, ver, uniq, stopped, LinkModel, Msg, query, reply, answer, afterReply, Deliver, asked, taken-in, queries, unless, Put, upd, put, Send, send, World, Event, start, tick, time, host, OnTime, Act, begin, again, won, other, Step, Run, Fresh, Settled, Any, Serial}
 use Rattle.uniqueness.proofs.Deliver.{Sent, sent, sent-else}
 use Rattle.uniqueness.proofs.Inv.{by}
-use Rattle.uniqueness.proofs.Exists.{times, SerialList, serial-exists, can-send}
-use Rattle.uniqueness.proofs.OneHolder.{one-holder}
-use Rattle.uniqueness.proofs.Serial.{first-holds}
-use Rattle.uniqueness.proofs.Sys.{Out, nothing, ask, tell, Res, Sys, Packet, broadcast, packets, CDeliver, got, CWorld, Kind, isOff, isVerifying, isOwning, isStopped, kind, LastIs, result, Starts, CStep, CRun, CSettled, CSerial, Asks, Tells, Answers, Ticked, Refines}
+use Rattle.uniqueness.proofs.Exists.{times, can-send}
+use Rattle.uniqueness.proofs.Sys.{Out, nothing, Res, Sys, Packet, broadcast, packets, CDeliver, got, CWorld, Kind, isOff, isVerifying, kind, LastIs, result, Starts, CStep, CRun, CSettled, CSerial, Asks, Answers, Ticked, Refines}
 
 -- two lists, place by place
 pub data F2 {A B : Type 0} (R : A → B → Type 0) : List A → List B → Type 0 where

@@ -6,6 +6,7 @@ use mathlib.Core.List.{List, [], _++_, append-nil, append-assoc}
 use native.Mathlib.Omega.{arith}
 use lib.ListN.{getD, length, take, drop, length-append, length-drop}
 use lib.Seq.{take-at}
+use Rattle.responder.specs.Bounds.{room as roomOctets}
 use Rattle.octets.specs.Octets.{partOf}
 use Rattle.octets.specs.Words.{bigOctets}
 use Rattle.octets.proofs.Octets.{part-in}
@@ -62,7 +63,7 @@ replyHead id t = record { id = id; conflict = false; tentative = t }
 
 pub record ReplyTo (id : ℕ) (y : List ℕ) (t : Bool) (b : List ℕ) : Type 0 where
   pub answers : List Answer
-  pub is : b ≡ replyTo 512 (replyHead id t) (questionOctets y 255 1) 255 answers
+  pub is : b ≡ replyTo roomOctets (replyHead id t) (questionOctets y 255 1) 255 answers
 
 -- ---- parts
 
@@ -92,7 +93,7 @@ module _ (y z : List ℕ) (w : SameName y z) where
   pub spelling-short : length y ≤ 255
   spelling-short = omega (arith, ap length (w .first-octets), w .first-name .short)
 
-  pub question-short : 12 + length (questionOctets y 255 1) ≤ 512
+  pub question-short : 12 + length (questionOctets y 255 1) ≤ roomOctets
   question-short = omega (arith, spelling-short, question-length y 255 1)
 
   pub reads-query : (id : ℕ) → Reading (checkQuery id y) y (queryHeader id)
@@ -108,10 +109,10 @@ module _ (y z : List ℕ) (w : SameName y z) where
 
   module _ (id : ℕ) (t : Bool) (answers : List Answer) where
     abbrev answer : List ℕ
-    answer = replyTo 512 (replyHead id t) (questionOctets y 255 1) 255 answers
+    answer = replyTo roomOctets (replyHead id t) (questionOctets y 255 1) 255 answers
 
     abbrev taken : Taken
-    taken = takenOf 512 255 (questionOctets y 255 1) answers
+    taken = takenOf roomOctets 255 (questionOctets y 255 1) answers
 
     abbrev answerHead : List ℕ
     answerHead = bigOctets id ++ replyFlags false (taken .cut) t ++ countOctets (length (taken .answers))
@@ -130,9 +131,9 @@ module _ (y z : List ℕ) (w : SameName y z) where
     reads-answer =
         let q : List ℕ = questionOctets y 255 1 in
         reading answer y (answersOctets (taken .answers)) (replyHeader id false (taken .cut) t (length (taken .answers)))
-        (reply-has-header 512 (replyHead id t) q 255 answers)
-        (omega (arith, reply-within 512 (replyHead id t) q 255 answers question-short))
-        (ap headerAt (sym (append-nil answer)) ∙ reads-header 512 (replyHead id t) q 255 answers [])
+        (reply-has-header roomOctets (replyHead id t) q 255 answers)
+        (omega (arith, reply-within roomOctets (replyHead id t) q 255 answers question-short))
+        (ap headerAt (sym (append-nil answer)) ∙ reads-header roomOctets (replyHead id t) q 255 answers [])
         asks-there
         (ap (drop 12) laid-out)
 
@@ -140,9 +141,9 @@ module _ (y z : List ℕ) (w : SameName y z) where
   pub reads-reply : (id : ℕ) (t : Bool) (b : List ℕ) → ReplyTo id y t b
       → (cut : Bool) × (n : ℕ) × Reading b y (replyHeader id false cut t n)
   reads-reply id t b r = (
-    takenOf 512 255 (questionOctets y 255 1) (r .answers) .cut,
-    length (takenOf 512 255 (questionOctets y 255 1) (r .answers) .answers),
-    subst (λ (u : List ℕ). Reading u y (replyHeader id false (takenOf 512 255 (questionOctets y 255 1) (r .answers) .cut) t (length (takenOf 512 255 (questionOctets y 255 1) (r .answers) .answers))))
+    takenOf roomOctets 255 (questionOctets y 255 1) (r .answers) .cut,
+    length (takenOf roomOctets 255 (questionOctets y 255 1) (r .answers) .answers),
+    subst (λ (u : List ℕ). Reading u y (replyHeader id false (takenOf roomOctets 255 (questionOctets y 255 1) (r .answers) .cut) t (length (takenOf roomOctets 255 (questionOctets y 255 1) (r .answers) .answers))))
         (sym (r .is)) (reads-answer id t (r .answers)),
   )
 
@@ -156,4 +157,4 @@ flags-lowest false false = refl
 pub reply-t : (id : ℕ) (y : List ℕ) (t : Bool) (b : List ℕ) → ReplyTo id y t b → getD b 2 0 % 2 ≡ cond t 1 0
 unfolding replyOctets
 reply-t id y t b r =
-    ap (λ (u : List ℕ). getD u 2 0 % 2) (r .is) ∙ flags-lowest (takenOf 512 255 (questionOctets y 255 1) (r .answers) .cut) t
+    ap (λ (u : List ℕ). getD u 2 0 % 2) (r .is) ∙ flags-lowest (takenOf roomOctets 255 (questionOctets y 255 1) (r .answers) .cut) t

@@ -1,18 +1,20 @@
--- What is to be proved of the calls' definitions. Demand 3 follows from it (file Theorem).
+-- What the theorem needs of the calls' definitions, as facts about explicit hosts. Demand 3 follows from them (file Reach); they are
+-- proved in file Obliged.
 -- Every state here is one that a host of the link can have: set up, all names Off but the one, and that one in a given state.
-use Prim.Native.Nat.{ℕ, zero, suc, _+_, _%_, _≤_, _<_}
+use Prim.Native.Nat.{ℕ, suc, _+_, _%_, _≤_, _<_}
 use mathlib.Core.Path.{_≡_}
 use mathlib.Core.Logic.{_≢_}
 use mathlib.Core.Bool.{Bool, true, false, cond}
-use mathlib.Core.List.{List, [], _∷_, map}
+use mathlib.Core.List.{List, map}
 use lib.ListN.{getD, set, take, length, replicate}
+use Rattle.responder.specs.Bounds.{latest as latestTime}
+use Rattle.octets.specs.Bounds.{llmnrPort}
 use Rattle.octets.specs.Octets.{Octets}
 use Rattle.octets.specs.declared.Address.{Address}
 use Rattle.octets.specs.declared.Endpoint.{Endpoint}
 use Rattle.octets.specs.declared.Setting.{Setting}
 use Rattle.octets.specs.Addresses.{sameAddress, belowAddress, groupOf}
 use Rattle.refusal.specs.Numbers.{Told, numberIn}
-use Rattle.responder.specs.declared.Timer.{Timer}
 use Rattle.responder.specs.declared.NameState.{NameState}
 use Rattle.responder.specs.declared.NameState.the-variants.{Off, Verifying, Defending}
 use Rattle.responder.specs.declared.NameState.the-variants.{Unique as IsUnique, Stopped as HasStopped}
@@ -24,10 +26,10 @@ use Rattle.responder.specs.SetUp.{setUp}
 use Rattle.responder.specs.Start.{checkQuery, start}
 use Rattle.responder.specs.Tick.{tick}
 use Rattle.responder.specs.Receive.{Arrival, receive}
-use Rattle.uniqueness.specs.Link.{Station, settingOf, Link, addressOf, Lent, Receipt, sent, SameName, OnLink, Conditions}
+use Rattle.uniqueness.specs.Link.{Station, settingOf, Link, Lent, Receipt, SameName, OnLink, Conditions}
 
 abbrev pub top : ℕ
-top = 281474976710655
+top = latestTime
 
 -- a host of station s whose name is in state x, and its clock at t
 abbrev pub unstarted : Setting → Interface
@@ -48,7 +50,7 @@ pub record Asked (L : Link) (spelling : List ℕ) (id : ℕ) (h : Host) (d : Don
   pub name : ℕ
   pub len : ℕ
   pub outcome : d .result ≡ Query name len
-  pub to : d .to ≡ record { address = groupOf (L .family); port = 5355 }
+  pub to : d .to ≡ record { address = groupOf (L .family); port = llmnrPort }
   pub octets : take len (d .octets) ≡ checkQuery id spelling
 
 -- a reply went out to where the query came from
@@ -60,7 +62,7 @@ pub record Replied (Reads : List ℕ → Type 0) (from : Endpoint) (h : Host) (d
   pub octets : Reads (take len (d .octets))
 
 -- refused, with a number; the state is h as before
-pub record Turned (n : ℕ) (h : Host) (d : Done) : Type 0 where
+pub record RefusedWith (n : ℕ) (h : Host) (d : Done) : Type 0 where
   pub host : d .host ≡ h
   pub why : Told
   pub outcome : d .result ≡ Refused why
@@ -72,13 +74,13 @@ pub record Taken (h : Host) (o : Result) (d : Done) : Type 0 where
   pub outcome : d .result ≡ o
 
 -- the timer of such a state has not run out
-abbrev pub Resting : NameState → ℕ → Type 0
-Resting Off t = Unit {0}
-Resting (Verifying n id timer) t = t < timer .due
-Resting IsUnique t = Unit {0}
-Resting (Defending id qtype qclass timer) t = ⊥
-Resting HasStopped t = Unit {0}
-Resting NameState.Shared t = ⊥
+abbrev pub NotDue : NameState → ℕ → Type 0
+NotDue Off t = Unit {0}
+NotDue (Verifying n id timer) t = t < timer .due
+NotDue IsUnique t = Unit {0}
+NotDue (Defending id qtype qclass timer) t = ⊥
+NotDue HasStopped t = Unit {0}
+NotDue NameState.Shared t = ⊥
 
 -- a response can be for it
 abbrev pub Waits : NameState → Bool
@@ -127,8 +129,8 @@ module _ (L : Link) (s : Station) where
       receive (hostWith s x clock) (arrival t (groupOf (L .family)) (checkQuery id y) a v)
 
   -- the octets b are received at the host's own address
-  abbrev pub hearing : NameState → ℕ → ℕ → List ℕ → List ℕ → Receipt → Done
-  hearing x clock t b a v =
+  abbrev pub responded : NameState → ℕ → ℕ → List ℕ → List ℕ → Receipt → Done
+  responded x clock t b a v =
       receive (hostWith s x clock) (arrival t (own L s) b a v)
 
 -- of every station s of a link. ReplyTo id y t b: see Obligations
@@ -143,13 +145,13 @@ pub record Meets (ReplyTo : ℕ → List ℕ → Bool → List ℕ → Type 0) (
   pub start-refused : (x : NameState) (clock i k t : ℕ) (v : Lent) (r : Told) → clock ≤ t → t ≤ top
       → starting L s x clock i k t v .result ≡ Refused r → starting L s x clock i k t v .host ≡ hostWith s x clock
   pub start-unused : (x : NameState) (clock i k t : ℕ) (v : Lent) → clock ≤ t → t ≤ top → i ≢ s .interface
-      → Turned 3 (hostWith s x clock) (starting L s x clock i k t v)
+      → RefusedWith 3 (hostWith s x clock) (starting L s x clock i k t v)
   pub start-off : (clock t : ℕ) (v : Lent) → clock ≤ t → t ≤ top
       → Asked L (o .spelling) (v .id) (hostWith s (verifying 1 (v .id) (t + L .interval)) t) (starting L s Off clock (s .interface) (s .name) t v)
   -- tick: an interface that is not used; nothing due; a repeat; the end of verifying
   pub tick-unused : (x : NameState) (clock i t : ℕ) (v : Lent) → clock ≤ t → t ≤ top → i ≢ s .interface
-      → Turned 3 (hostWith s x clock) (ticking L s x clock i t v)
-  pub tick-quiet : (x : NameState) (clock t : ℕ) (v : Lent) → clock ≤ t → t ≤ top → Resting x t
+      → RefusedWith 3 (hostWith s x clock) (ticking L s x clock i t v)
+  pub tick-quiet : (x : NameState) (clock t : ℕ) (v : Lent) → clock ≤ t → t ≤ top → NotDue x t
       → Taken (hostWith s x t) Quiet (ticking L s x clock (s .interface) t v)
   pub tick-again : (sends id due clock t : ℕ) (v : Lent) → clock ≤ t → t ≤ top → id < 65536 → due ≤ t → sends < 3
       → Asked L (o .spelling) id (hostWith s (verifying (suc sends) id (t + L .interval)) t)
@@ -158,34 +160,34 @@ pub record Meets (ReplyTo : ℕ → List ℕ → Bool → List ℕ → Type 0) (
       → Taken (hostWith s IsUnique t) (Unique (s .name)) (ticking L s (verifying sends id due) clock (s .interface) t v)
   -- receive: a start's query for the name, from any address of the family
   pub query-off : (clock t id : ℕ) (y a : List ℕ) (v : Receipt) → clock ≤ t → t ≤ top → id < 65536 → SameName y (L .name) → Octets a → length a ≡ 16
-      → Turned 12 (hostWith s Off clock) (asking L s Off clock t id y a v)
+      → RefusedWith 12 (hostWith s Off clock) (asking L s Off clock t id y a v)
   pub query-verifying : (sends own due clock t id : ℕ) (y a : List ℕ) (v : Receipt) → clock ≤ t → t ≤ top → id < 65536 → SameName y (L .name)
       → Octets a → length a ≡ 16
       → Replied (ReplyTo id y true) (source L s a v) (hostWith s (verifying sends own due) t) (asking L s (verifying sends own due) clock t id y a v)
   pub query-unique : (clock t id : ℕ) (y a : List ℕ) (v : Receipt) → clock ≤ t → t ≤ top → id < 65536 → SameName y (L .name) → Octets a → length a ≡ 16
       → Replied (ReplyTo id y false) (source L s a v) (hostWith s IsUnique t) (asking L s IsUnique clock t id y a v)
   pub query-stopped : (clock t id : ℕ) (y a : List ℕ) (v : Receipt) → clock ≤ t → t ≤ top → id < 65536 → SameName y (L .name) → Octets a → length a ≡ 16
-      → Turned 13 (hostWith s HasStopped clock) (asking L s HasStopped clock t id y a v)
+      → RefusedWith 13 (hostWith s HasStopped clock) (asking L s HasStopped clock t id y a v)
   -- receive: a reply to the host's own query (its ID), from an address that is not its own
   pub reply-clear : (sends id due clock t : ℕ) (y a b : List ℕ) (v : Receipt) → clock ≤ t → t ≤ top → id < 65536 → SameName y (L .name)
       → Octets a → length a ≡ 16 → sameAddress (address L a) (own L s) ≡ false → ReplyTo id y false b
-      → Taken (hostWith s HasStopped t) (Stopped (s .name)) (hearing L s (verifying sends id due) clock t b a v)
+      → Taken (hostWith s HasStopped t) (Stopped (s .name)) (responded L s (verifying sends id due) clock t b a v)
   pub reply-below : (sends id due clock t : ℕ) (y a b : List ℕ) (v : Receipt) → clock ≤ t → t ≤ top → id < 65536 → SameName y (L .name)
       → Octets a → length a ≡ 16 → sameAddress (address L a) (own L s) ≡ false → ReplyTo id y true b
       → belowAddress (address L a) (own L s) ≡ true
-      → Taken (hostWith s HasStopped t) (Stopped (s .name)) (hearing L s (verifying sends id due) clock t b a v)
+      → Taken (hostWith s HasStopped t) (Stopped (s .name)) (responded L s (verifying sends id due) clock t b a v)
   pub reply-above : (sends id due clock t : ℕ) (y a b : List ℕ) (v : Receipt) → clock ≤ t → t ≤ top → id < 65536 → SameName y (L .name)
       → Octets a → length a ≡ 16 → sameAddress (address L a) (own L s) ≡ false → ReplyTo id y true b
       → belowAddress (address L a) (own L s) ≡ false
-      → Taken (hostWith s (verifying sends id due) t) (Kept (s .name)) (hearing L s (verifying sends id due) clock t b a v)
+      → Taken (hostWith s (verifying sends id due) t) (Kept (s .name)) (responded L s (verifying sends id due) clock t b a v)
   -- while the name is not verifying it is unmatched
   pub reply-late : (x : NameState) (clock t id : ℕ) (y a b : List ℕ) (f : Bool) (v : Receipt) → clock ≤ t → t ≤ top → id < 65536 → SameName y (L .name)
       → Octets a → length a ≡ 16 → ReplyTo id y f b → Waits x ≡ false
-      → Turned 15 (hostWith s x clock) (hearing L s x clock t b a v)
+      → RefusedWith 15 (hostWith s x clock) (responded L s x clock t b a v)
 
--- ALL THAT IS LEFT TO PROVE
+-- all of it
 pub record Obligations : Type 1 where
-  -- yours to choose: b is a reply to a start's query with this ID and spelling of the name, with T set or clear
+  -- b is a reply to a start's query with this ID and spelling of the name, with T set or clear
   pub ReplyTo : ℕ → List ℕ → Bool → List ℕ → Type 0
   pub reply-t : (id : ℕ) (y : List ℕ) (t : Bool) (b : List ℕ) → ReplyTo id y t b → getD b 2 0 % 2 ≡ cond t 1 0
   pub meets : (L : Link) → Conditions L → (s : Station) (o : OnLink L s) → Meets ReplyTo L s o

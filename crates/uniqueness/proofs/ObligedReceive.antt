@@ -8,6 +8,7 @@ use native.Mathlib.Decide.{ℕ-discrete}
 use lib.ListN.{getD, length}
 use lib.Dec.{eqb}
 use borrow.Author.Tests.{eq-eqb, ne-eqb, le-ltb}
+use Rattle.responder.specs.Bounds.{room as roomOctets}
 use Rattle.octets.specs.Octets.{Octets, partOf}
 use Rattle.octets.specs.declared.Address.{Address}
 use Rattle.octets.specs.declared.Setting.{Setting}
@@ -38,7 +39,7 @@ use Rattle.responder.specs.Start.{nameIn, checkQuery}
 use Rattle.responder.specs.Receive.{Arrival, header, questionOr, isBad, question, asked, askedName, badLength, badAddress, badCounts, badClass, found, isFound, numberOr, nameNumber, state, fromUs, notOurs, awaits, unmatched, queryChecks, responseChecks, receiveChecks, Decision, answer, defend, keep, loses, decision, effect, receiveIf, receive}
 use Rattle.responder.specs.Receive.{stop as stops}
 use Rattle.uniqueness.specs.Link.{Station, settingOf, Link, Receipt, SameName, OnLink, Conditions}
-use Rattle.uniqueness.proofs.Obligations.{top, hostWith, Replied, Turned, Taken, Waits, address, own, source, arrival, asking, hearing}
+use Rattle.uniqueness.proofs.Obligations.{top, hostWith, Replied, RefusedWith, Taken, Waits, address, own, source, arrival, asking, responded}
 use Rattle.uniqueness.proofs.Obligations.{verifying as verifyingWith}
 use Rattle.uniqueness.proofs.Represented.{other-at, among-settings, state-at, write-at, clock-at}
 use Rattle.uniqueness.proofs.Stations.{held, few-is, finds-it, is-family, not-group}
@@ -243,17 +244,17 @@ module _ (L : Link) (c : Conditions L) (s : Station) (o : OnLink L s) where
         ∙ ap (λ (z : Bool). record { id = id; conflict = z; tentative = is verifying x }) r
 
     reply-is : is shared x ≡ false
-        → replyTo 512 head (asked query-here) (question query-here .qtype) answers ≡ replyTo 512 (replyHead id (is verifying x)) (questionOctets y 255 1) 255 answers
+        → replyTo roomOctets head (asked query-here) (question query-here .qtype) answers ≡ replyTo roomOctets (replyHead id (is verifying x)) (questionOctets y 255 1) 255 answers
     reply-is r =
-        ap (λ (z : ReplyHead). replyTo 512 z (asked query-here) (question query-here .qtype) answers) (head-is r)
-        ∙ ap (λ (z : List ℕ). replyTo 512 (replyHead id (is verifying x)) z (question query-here .qtype) answers) query-octets
-        ∙ ap (λ (z : Question). replyTo 512 (replyHead id (is verifying x)) (questionOctets y 255 1) (z .qtype) answers)
+        ap (λ (z : ReplyHead). replyTo roomOctets z (asked query-here) (question query-here .qtype) answers) (head-is r)
+        ∙ ap (λ (z : List ℕ). replyTo roomOctets (replyHead id (is verifying x)) z (question query-here .qtype) answers) query-octets
+        ∙ ap (λ (z : Question). replyTo roomOctets (replyHead id (is verifying x)) (questionOctets y 255 1) (z .qtype) answers)
         (question-is x clock t f g y w (groupOf (L .family)) query a v (queryHeader id) (reads-query y (L .name) w id))
 
-    room-for-it : hasRoom (v .lent .out) 512 (asked query-here) ≡ true
+    room-for-it : hasRoom (v .lent .out) roomOctets (asked query-here) ≡ true
     room-for-it =
-        has-room (v .lent .out) 512 (asked query-here) .1
-        (v .lent .room, subst (λ (z : List ℕ). 12 + length z ≤ 512) (sym query-octets) (question-short y (L .name) w))
+        has-room (v .lent .out) roomOctets (asked query-here) .1
+        (v .lent .room, subst (λ (z : List ℕ). 12 + length z ≤ roomOctets) (sym query-octets) (question-short y (L .name) w))
 
     answers-it : is off x ≡ false → is stopped x ≡ false → is shared x ≡ false
         → Replied (ReplyTo id y (is verifying x)) (source L s a v) (hostWith s x t) (asking L s x clock t id y a v)
@@ -262,26 +263,26 @@ module _ (L : Link) (c : Conditions L) (s : Station) (o : OnLink L s) where
         (ap (λ (d : Decision). effect d (hostWith s x clock) query-here) (sym query-decides) ∙ query-by passed (query-passes p q))
         (record {
           host = clock-at s (o .four) (o .used) (few-is L s o) x clock t;
-          len = replyWritten (v .lent .out) 512 head (asked query-here) (question query-here .qtype) answers .len;
+          len = replyWritten (v .lent .out) roomOctets head (asked query-here) (question query-here .qtype) answers .len;
           outcome = refl;
           to = refl;
           octets =
               record {
                 answers = answers;
-                is = written-is 512 head (asked query-here) (question query-here .qtype) answers (v .lent .out) room-for-it ∙ reply-is r;
+                is = written-is roomOctets head (asked query-here) (question query-here .qtype) answers (v .lent .out) room-for-it ∙ reply-is r;
               };
         })
 
   pub query-off : (clock t id : ℕ) (y a : List ℕ) (v : Receipt) → clock ≤ t → t ≤ top → id < 65536 → SameName y (L .name) → Octets a → length a ≡ 16
-      → Turned 12 (hostWith s Off clock) (asking L s Off clock t id y a v)
+      → RefusedWith 12 (hostWith s Off clock) (asking L s Off clock t id y a v)
   query-off clock t id y a v f g i w oa la =
-      subst (Turned 12 (hostWith s Off clock)) (query-by Off clock t id y a v f g w _ (stop (query-ours Off clock t id y a v f g w)))
+      subst (RefusedWith 12 (hostWith s Off clock)) (query-by Off clock t id y a v f g w _ (stop (query-ours Off clock t id y a v f g w)))
       (record { host = refl; why = number 12; outcome = refl; is = refl })
 
   pub query-stopped : (clock t id : ℕ) (y a : List ℕ) (v : Receipt) → clock ≤ t → t ≤ top → id < 65536 → SameName y (L .name) → Octets a → length a ≡ 16
-      → Turned 13 (hostWith s Stopped clock) (asking L s Stopped clock t id y a v)
+      → RefusedWith 13 (hostWith s Stopped clock) (asking L s Stopped clock t id y a v)
   query-stopped clock t id y a v f g i w oa la =
-      subst (Turned 13 (hostWith s Stopped clock))
+      subst (RefusedWith 13 (hostWith s Stopped clock))
       (query-by Stopped clock t id y a v f g w _
       (next (query-ours Stopped clock t id y a v f g w) (stop (ap (is stopped) (query-state Stopped clock t id y a v f g w)))))
       (record { host = refl; why = number 13; outcome = refl; is = refl })
@@ -308,7 +309,7 @@ module _ (L : Link) (c : Conditions L) (s : Station) (o : OnLink L s) where
         rw (m, eq-eqb (L .family) (L .family) refl, rd .header, not-group L s o c)
 
     reply-by : (u : Verdict) → Gives (responseChecks (hostWith s x clock) reply-here) u
-        → receiveIf u (hostWith s x clock) reply-here ≡ hearing L s x clock t b a v
+        → receiveIf u (hostWith s x clock) reply-here ≡ responded L s x clock t b a v
     reply-by u r =
         receive-by x clock t f g y w (own L s) b a v (replyHeader id false cut flag n) rd u
         (reads-on x clock t f g y w (own L s) b a v (replyHeader id false cut flag n) rd reply-to-us refl refl refl r)
@@ -331,7 +332,7 @@ module _ (L : Link) (c : Conditions L) (s : Station) (o : OnLink L s) where
 
     reply-stops : awaits x id 255 1 ≡ true → sameAddress (address L a) (own L s) ≡ false
         → cond (cond (is verifying x) (not flag) false) true (belowAddress (address L a) (own L s)) ≡ true
-        → Taken (hostWith s Stopped t) (StoppedName (s .name)) (hearing L s x clock t b a v)
+        → Taken (hostWith s Stopped t) (StoppedName (s .name)) (responded L s x clock t b a v)
     reply-stops p q e =
         subst (Taken (hostWith s Stopped t) (StoppedName (s .name)))
         (ap (λ (d : Decision). effect d (hostWith s x clock) reply-here) (sym (reply-decides true e)) ∙ reply-by passed (reply-passes p q))
@@ -344,20 +345,20 @@ module _ (L : Link) (c : Conditions L) (s : Station) (o : OnLink L s) where
 
     reply-keeps : awaits x id 255 1 ≡ true → sameAddress (address L a) (own L s) ≡ false
         → cond (cond (is verifying x) (not flag) false) true (belowAddress (address L a) (own L s)) ≡ false
-        → Taken (hostWith s x t) (Kept (s .name)) (hearing L s x clock t b a v)
+        → Taken (hostWith s x t) (Kept (s .name)) (responded L s x clock t b a v)
     reply-keeps p q e =
         subst (Taken (hostWith s x t) (Kept (s .name)))
         (ap (λ (d : Decision). effect d (hostWith s x clock) reply-here) (sym (reply-decides false e)) ∙ reply-by passed (reply-passes p q))
         (record { host = clock-at s (o .four) (o .used) (few-is L s o) x clock t; outcome = ap Kept reply-number })
 
-    reply-turned : awaits x id 255 1 ≡ false → Turned 15 (hostWith s x clock) (hearing L s x clock t b a v)
+    reply-turned : awaits x id 255 1 ≡ false → RefusedWith 15 (hostWith s x clock) (responded L s x clock t b a v)
     reply-turned p =
-        subst (Turned 15 (hostWith s x clock)) (reply-by _ (stop (reply-unmatched ∙ ap not p)))
+        subst (RefusedWith 15 (hostWith s x clock)) (reply-by _ (stop (reply-unmatched ∙ ap not p)))
         (record { host = refl; why = number 15; outcome = refl; is = refl })
 
   pub reply-clear : (sends id due clock t : ℕ) (y a b : List ℕ) (v : Receipt) → clock ≤ t → t ≤ top → id < 65536 → SameName y (L .name)
       → Octets a → length a ≡ 16 → sameAddress (address L a) (own L s) ≡ false → ReplyTo id y false b
-      → Taken (hostWith s Stopped t) (StoppedName (s .name)) (hearing L s (verifyingWith sends id due) clock t b a v)
+      → Taken (hostWith s Stopped t) (StoppedName (s .name)) (responded L s (verifyingWith sends id due) clock t b a v)
   reply-clear sends id due clock t y a b v f g i w oa la q r =
       let z = reads-reply y (L .name) w id false b r in
       reply-stops (verifyingWith sends id due) clock t id y a b v f g w false (z .0) (z .1) (z .2) (waits-for sends id due) q refl
@@ -365,7 +366,7 @@ module _ (L : Link) (c : Conditions L) (s : Station) (o : OnLink L s) where
   pub reply-below : (sends id due clock t : ℕ) (y a b : List ℕ) (v : Receipt) → clock ≤ t → t ≤ top → id < 65536 → SameName y (L .name)
       → Octets a → length a ≡ 16 → sameAddress (address L a) (own L s) ≡ false → ReplyTo id y true b
       → belowAddress (address L a) (own L s) ≡ true
-      → Taken (hostWith s Stopped t) (StoppedName (s .name)) (hearing L s (verifyingWith sends id due) clock t b a v)
+      → Taken (hostWith s Stopped t) (StoppedName (s .name)) (responded L s (verifyingWith sends id due) clock t b a v)
   reply-below sends id due clock t y a b v f g i w oa la q r e =
       let z = reads-reply y (L .name) w id true b r in
       reply-stops (verifyingWith sends id due) clock t id y a b v f g w true (z .0) (z .1) (z .2) (waits-for sends id due) q e
@@ -373,14 +374,14 @@ module _ (L : Link) (c : Conditions L) (s : Station) (o : OnLink L s) where
   pub reply-above : (sends id due clock t : ℕ) (y a b : List ℕ) (v : Receipt) → clock ≤ t → t ≤ top → id < 65536 → SameName y (L .name)
       → Octets a → length a ≡ 16 → sameAddress (address L a) (own L s) ≡ false → ReplyTo id y true b
       → belowAddress (address L a) (own L s) ≡ false
-      → Taken (hostWith s (verifyingWith sends id due) t) (Kept (s .name)) (hearing L s (verifyingWith sends id due) clock t b a v)
+      → Taken (hostWith s (verifyingWith sends id due) t) (Kept (s .name)) (responded L s (verifyingWith sends id due) clock t b a v)
   reply-above sends id due clock t y a b v f g i w oa la q r e =
       let z = reads-reply y (L .name) w id true b r in
       reply-keeps (verifyingWith sends id due) clock t id y a b v f g w true (z .0) (z .1) (z .2) (waits-for sends id due) q e
 
   pub reply-late : (x : NameState) (clock t id : ℕ) (y a b : List ℕ) (flag : Bool) (v : Receipt) → clock ≤ t → t ≤ top → id < 65536 → SameName y (L .name)
       → Octets a → length a ≡ 16 → ReplyTo id y flag b → Waits x ≡ false
-      → Turned 15 (hostWith s x clock) (hearing L s x clock t b a v)
+      → RefusedWith 15 (hostWith s x clock) (responded L s x clock t b a v)
   reply-late x clock t id y a b flag v f g i w oa la r e =
       let z = reads-reply y (L .name) w id flag b r in
       reply-turned x clock t id y a b v f g w flag (z .0) (z .1) (z .2) (waits-not x id e)

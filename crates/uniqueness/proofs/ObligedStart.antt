@@ -26,7 +26,7 @@ use Rattle.responder.specs.SetUp.{setUp}
 use Rattle.responder.specs.Start.{nameIn, isIdle, startChecks, checkQuery, isSharedKind, started, startIf, start}
 use Rattle.responder.specs.Start.{asking as querying}
 use Rattle.uniqueness.specs.Link.{Station, settingOf, Link, Lent, OnLink, Conditions}
-use Rattle.uniqueness.proofs.Obligations.{top, hostWith, verifying, Asked, Turned, starting}
+use Rattle.uniqueness.proofs.Obligations.{top, hostWith, verifying, Asked, RefusedWith, starting}
 use Rattle.uniqueness.proofs.Represented.{state-at, write-at, fresh-is}
 use Rattle.uniqueness.proofs.Stations.{few-is, set-up-host, interval-is}
 use Rattle.uniqueness.proofs.EarlyLaws.{names-are, name-is, setting-is, early-passes, early-unused, timer-from, goes-out}
@@ -68,9 +68,9 @@ module _ (L : Link) (c : Conditions L) (s : Station) (o : OnLink L s) where
           (λ z. let y : _≡_ {A = ℕ} 0 1 = cc in omega arith) (λ z. let y : _≡_ {A = ℕ} 0 1 = cc in omega arith) q)
 
   pub start-unused : (x : NameState) (clock i k t : ℕ) (v : Lent) → clock ≤ t → t ≤ top → i ≢ s .interface
-      → Turned 3 (hostWith s x clock) (starting L s x clock i k t v)
+      → RefusedWith 3 (hostWith s x clock) (starting L s x clock i k t v)
   start-unused x clock i k t v f g ne =
-      subst (Turned 3 (hostWith s x clock)) (start-by x clock i k t v _ (early-unused L s o x clock i t (v .out) _ (v .room) ne))
+      subst (RefusedWith 3 (hostWith s x clock)) (start-by x clock i k t v _ (early-unused L s o x clock i t (v .out) _ (v .room) ne))
       (record { host = refl; why = number 3; outcome = refl; is = refl })
 
   pub start-off : (clock t : ℕ) (v : Lent) → clock ≤ t → t ≤ top

@@ -28,7 +28,7 @@ use Rattle.responder.specs.Start.{nameIn, checkQuery}
 use Rattle.responder.specs.Start.{asking as querying}
 use Rattle.responder.specs.Tick.{isDue, Due, due, none, dueFrom, nowUnique, serve, serveDue, tickIf, tick}
 use Rattle.uniqueness.specs.Link.{Station, settingOf, Link, Lent, OnLink, Conditions}
-use Rattle.uniqueness.proofs.Obligations.{top, inUse, hostWith, verifying, Asked, Turned, Taken, Resting, ticking}
+use Rattle.uniqueness.proofs.Obligations.{top, inUse, hostWith, verifying, Asked, RefusedWith, Taken, NotDue, ticking}
 use Rattle.uniqueness.proofs.Represented.{interface-at, name-at, name-else, state-at, write-at, clock-at}
 use Rattle.uniqueness.proofs.Stations.{held, few-is}
 use Rattle.uniqueness.proofs.EarlyLaws.{names-are, name-is, setting-is, early-passes, early-unused, timer-from, goes-out}
@@ -53,14 +53,14 @@ one-due (suc n) names k j t a b p h =
     (λ e. let q : isDue (getD names k offName .state) t ≡ true = ap (λ (i : ℕ). isDue (getD names i offName .state) t) e ∙ p in rw q (ap due e))
     (λ e. let q = h k e in rw q (one-due n names (k + 1) j t (omega arith) (omega arith) p h))
 
--- a state that rests is not due
-rests : (x : NameState) (t : ℕ) → Resting x t → isDue x t ≡ false
-rests Off t r = refl
-rests (Verifying n id timer) t r = lt-leb _ _ r
-rests Unique t r = refl
-rests (Defending id qtype qclass timer) t r = absurd r
-rests Stopped t r = refl
-rests Shared t r = absurd r
+-- the timer of such a state has not run out
+not-due : (x : NameState) (t : ℕ) → NotDue x t → isDue x t ≡ false
+not-due Off t r = refl
+not-due (Verifying n id timer) t r = lt-leb _ _ r
+not-due Unique t r = refl
+not-due (Defending id qtype qclass timer) t r = absurd r
+not-due Stopped t r = refl
+not-due Shared t r = absurd r
 
 module _ (L : Link) (c : Conditions L) (s : Station) (o : OnLink L s) where
   -- a tick by its verdict
@@ -71,9 +71,9 @@ module _ (L : Link) (c : Conditions L) (s : Station) (o : OnLink L s) where
   tick-by x clock i t v w g = ap (λ (u : Verdict). tickIf u (hostWith s x clock) (s .table) i t (v .out)) (gives g)
 
   pub tick-unused : (x : NameState) (clock i t : ℕ) (v : Lent) → clock ≤ t → t ≤ top → i ≢ s .interface
-      → Turned 3 (hostWith s x clock) (ticking L s x clock i t v)
+      → RefusedWith 3 (hostWith s x clock) (ticking L s x clock i t v)
   tick-unused x clock i t v f g ne =
-      subst (Turned 3 (hostWith s x clock)) (tick-by x clock i t v _ (early-unused L s o x clock i t (v .out) _ (v .room) ne))
+      subst (RefusedWith 3 (hostWith s x clock)) (tick-by x clock i t v _ (early-unused L s o x clock i t (v .out) _ (v .room) ne))
       (record { host = refl; why = number 3; outcome = refl; is = refl })
 
   -- which name it serves
@@ -92,7 +92,7 @@ module _ (L : Link) (c : Conditions L) (s : Station) (o : OnLink L s) where
       ∙ ap (λ (q : Due). serveDue q (hostWith s x clock) (s .table) (s .interface) t (v .out)) e)
       ∙ tick-by x clock (s .interface) t v passed (early-passes L s o c x clock t (v .out) (v .room) f g done)
 
-  pub tick-quiet : (x : NameState) (clock t : ℕ) (v : Lent) → clock ≤ t → t ≤ top → Resting x t
+  pub tick-quiet : (x : NameState) (clock t : ℕ) (v : Lent) → clock ≤ t → t ≤ top → NotDue x t
       → Taken (hostWith s x t) Quiet (ticking L s x clock (s .interface) t v)
   tick-quiet x clock t v f g r =
       subst (Taken (hostWith s x t) Quiet) (serves x clock t v none f g (none-due (length (held L s o)) (inUse s x .names) 0 t all))
@@ -102,7 +102,7 @@ module _ (L : Link) (c : Conditions L) (s : Station) (o : OnLink L s) where
       all j = go (ℕ-discrete j (s .name))
         where
           go : Dec (j ≡ s .name) → isDue (getD (inUse s x .names) j offName .state) t ≡ false
-          go (yes e) = ap (λ (i : ℕ). isDue (getD (inUse s x .names) i offName .state) t) e ∙ this-name x t ∙ rests x t r
+          go (yes e) = ap (λ (i : ℕ). isDue (getD (inUse s x .names) i offName .state) t) e ∙ this-name x t ∙ not-due x t r
           go (no e) = other-names x t j e
 
   -- the name's own state is served once it is due

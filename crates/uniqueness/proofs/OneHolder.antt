@@ -1,11 +1,11 @@
 -- Theorem 1: after any valid list of events, once all are started and none verifies, exactly one host holds the name.
-use mathlib.Core.Path.{_≡_, refl, sym, _∙_, ap}
+use mathlib.Core.Path.{_≡_, refl, ap}
 use mathlib.Core.Logic.{_≢_, _⊎_, inl, inr}
-use mathlib.Core.List.{List, [], _∷_}
-use Prim.Native.Nat.{ℕ, zero, suc, _+_, _*_, _≤_, _<_}
+use mathlib.Core.List.{List}
+use Prim.Native.Nat.{ℕ, zero, suc, _≤_, _<_}
 use native.Mathlib.Decide.{ℕ-discrete, decLt}
 use native.Mathlib.Omega.{arith}
-use Rattle.uniqueness.proofs.Model.{St, off, ver, uniq, stopped, LinkModel, World, Event, Run, Fresh, Settled, Holds, OneHolder}
+use Rattle.uniqueness.proofs.Model.{St, off, ver, uniq, stopped, LinkModel, World, Event, Run, Fresh, Settled, OneHolder}
 use Rattle.uniqueness.proofs.Inv.{Inv, by, inv-run, inv-fresh}
 
 pub record Lowest (f : ℕ → ℕ) (n : ℕ) : Type 0 where

@@ -6,10 +6,11 @@ use mathlib.Core.Logic.{_⊎_, inl, inr}
 use mathlib.Core.Bool.{Bool, true, false, cond, not}
 use native.Mathlib.Omega.{arith}
 use lib.Dec.{ltb, leb, eqb}
-use borrow.Author.Tests.{ltb-true, leb-true, eqb-true, eqb-false, eq-eqb}
+use borrow.Author.Tests.{ltb-true, leb-true, eqb-true, eqb-false}
+use Rattle.responder.specs.Bounds.{latest as latestTime}
 use Rattle.octets.proofs.Tests.{split, both}
 use Rattle.responder.specs.declared.Host.{Host}
-use Rattle.uniqueness.specs.Link.{Link, Request, starts, ticks, Call, Datagram, Receipt, Moment, Observed, verifying, sortOf, datagrams, update, isRefused, after, result, received, Probe, observed, Every, AnyOrder, StartRule, Keeps, Delivered, none, next, Run, empty, then}
+use Rattle.uniqueness.specs.Link.{Link, Request, starts, ticks, Call, Datagram, Receipt, Moment, verifying, sortOf, datagrams, update, isRefused, result, received, Probe, observed, Every, AnyOrder, StartRule, Keeps, Delivered, none, next, Run, empty, then}
 use Rattle.uniqueness.specs.Play.{isEmpty, isVerifying, isAmong, deliver, undelivered, called, sending, deliveries, play, plays, inTime, mayStart, keepsRules, allKeep}
 
 no-more : (ps : List Datagram) → isEmpty ps ≡ true → ps ≡ []
@@ -64,7 +65,7 @@ module _ (L : Link) (x : Receipt) where
     unfolding keepsRules
     call-keeps m c e =
         let a = both (ltb (c .host) (L .count)) _ .0 e in
-        let b = both (leb (c .time) 281474976710655) _ .0 (a .1) in
+        let b = both (leb (c .time) latestTime) _ .0 (a .1) in
         let d = both (leb (m .time) (c .time)) _ .0 (b .1) in
         let f = both (inTime L x p (L .count) m (c .time)) _ .0 (d .1) in
         let g = both (mayStart L x p m (c .host) (c .request) (isRefused (sortOf (result L (m .hosts) c)))) _ .0 (f .1) in (

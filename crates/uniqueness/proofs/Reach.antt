@@ -1,22 +1,19 @@
 -- DEMAND 3 from the obligations. What is left after file Theorem: on every link each host can be made the owner.
-use mathlib.Core.Path.{_≡_, refl, sym, _∙_, ap, subst}
-use mathlib.Core.Logic.{_≢_}
+use mathlib.Core.Path.{refl}
 use mathlib.Core.Bool.{Bool, true, false}
-use mathlib.Core.List.{List, [], _∷_}
-use Prim.Native.Nat.{ℕ, zero, suc, _+_, _≤_, _<_}
-use native.Mathlib.Decide.{ℕ-discrete}
+use mathlib.Core.List.{List}
+use Prim.Native.Nat.{ℕ, _+_, _≤_, _<_}
 use native.Mathlib.Omega.{arith}
 use Rattle.uniqueness.specs.Link as Spec
-use Rattle.uniqueness.specs.Link.{Sort, sort, sortOf, Link, latest, Call, Request, starts, ticks, Moment, isRefused, owning, StartRule, Settled, OneByOne, AnyOrder, Conditions, Probe, Every, Some, Keeps, first, OneOwner, Owned, Uniqueness, Demand3}
-use Rattle.uniqueness.proofs.Model.{World, Fresh}
-use Rattle.uniqueness.proofs.Inv.{by}
-use Rattle.uniqueness.proofs.Exists.{serial-list, AtEnd}
+use Rattle.uniqueness.specs.Link.{sortOf, Link, latest, Call, Request, starts, ticks, Moment, isRefused, StartRule, Settled, OneByOne, AnyOrder, Conditions, Every, Some, first, Owned, Demand3}
+use Rattle.uniqueness.proofs.Model.{Fresh}
+use Rattle.uniqueness.proofs.Exists.{serial-list}
 use Rattle.uniqueness.proofs.Sys.{CSerial}
-use Rattle.uniqueness.proofs.Lift.{set-up-at, exists, Exists}
+use Rattle.uniqueness.proofs.Lift.{set-up-at, exists}
 use Rattle.uniqueness.proofs.Obligations.{top, Obligations}
 use Rattle.uniqueness.proofs.Hosts.{linkModel, Y, Rep, tag, IsQ, IsR, Good, Fit, some-probe}
 use Rattle.uniqueness.proofs.Bridge.{momentOf, settled-d, serial-d, run-d}
-use Rattle.uniqueness.proofs.Theorem.{some, begin, late, by-some, fresh-some, first-owns, conclusion, can}
+use Rattle.uniqueness.proofs.Theorem.{some, begin, by-some, fresh-some, first-owns, conclusion, can}
 
 module _ (O : Obligations) (L : Link) (C : Conditions L) where
   module _ (Order Order′ : Moment → ℕ → Type 0) (conv : (m : Moment) (h : ℕ) → Order m h → Order′ m h) where

@@ -1,14 +1,13 @@
 -- Theorem 2: where w starts first, and each other host once the one before does not verify, w ends as the holder; and such a list exists.
-use mathlib.Core.Path.{_≡_, refl, sym, _∙_, ap}
+use mathlib.Core.Path.{_≡_, refl, _∙_}
 use mathlib.Core.Logic.{_≢_, _⊎_, inl, inr}
-use mathlib.Core.Bool.{Bool, true, false}
-use mathlib.Core.List.{List, [], _∷_, _++_}
-use Prim.Native.Nat.{ℕ, zero, suc, _+_, _*_, _≤_, _<_}
-use native.Mathlib.Decide.{ℕ-discrete, decLt}
+use mathlib.Core.List.{List, [], _∷_}
+use Prim.Native.Nat.{ℕ, suc, _+_, _<_}
+use native.Mathlib.Decide.{ℕ-discrete}
 use native.Mathlib.Omega.{arith}
-use Rattle.uniqueness.proofs.Model.{St, off, ver, uniq, stopped, LinkModel, Msg, query, reply, answer, afterReply, Deliver, done, asked, taken-in, queries, Put, Send, send, World, Event, start, tick, time, host, OnTime, Act, begin, refused, again, won, other, quiet, Step, Run, stay, then, Fresh, Settled, Holds, OneHolder, Serial}
+use Rattle.uniqueness.proofs.Model.{St, off, ver, uniq, stopped, LinkModel, Put, Send, World, Event, host, Act, begin, refused, again, won, other, quiet, Run, stay, then, Fresh, Settled, Holds, Serial}
 use Rattle.uniqueness.proofs.Deliver.{Beats, by-uniq, by-low, Sent, sent, sent-else}
-use Rattle.uniqueness.proofs.Inv.{Inv, by, inv-run, inv-fresh}
+use Rattle.uniqueness.proofs.Inv.{by}
 
 pub record Lone (H : LinkModel) (w s d : ℕ) (σ : ℕ → St) : Type 0 where
   pub here : σ w ≡ ver s d

@@ -2,7 +2,7 @@
 -- a list of their calls that keeps every rule ends with one owner. And each of three premises is needed: without it a list ends with
 -- two owners.
 use Prim.Native.Nat.{ℕ, zero, suc, _+_, _<_, _≤_}
-use mathlib.Core.Path.{_≡_, refl, ap}
+use mathlib.Core.Path.{_≡_, refl}
 use mathlib.Core.Logic.{_≢_, inl}
 use mathlib.Core.List.{List, [], _∷_, _++_}
 use mathlib.Core.Bool.{Bool, true, false, cond}
@@ -17,9 +17,9 @@ use Rattle.octets.proofs.Tests.{both}
 use Rattle.refusal.specs.Checks.{verdict}
 use Rattle.names.specs.NameWalk.{nameFrom}
 use Rattle.names.specs.Folding.{folded, foldedName, sameName}
-use Rattle.names.specs.Names.{Labels, IsLabel, IsName, encode}
+use Rattle.names.specs.Names.{IsName, encode}
 use Rattle.name_table.specs.Kinds.{kindOf}
-use Rattle.name_table.specs.Check.{Held, Checked, good, isWhole, nameFills, nameForm, recordForm, formBy, formAt, findFrom, step, from, checkTable}
+use Rattle.name_table.specs.Check.{good, isWhole, nameFills, nameForm, recordForm, formBy, formAt, findFrom, step, from, checkTable}
 use Rattle.name_table.specs.Records.{recordBy, recordAt, recordsFrom}
 use Rattle.name_table.proofs.Meaning.{good-iff}
 use Rattle.message.specs.Header.{headerOf}
@@ -31,7 +31,7 @@ use Rattle.responder.specs.Outcomes.{ready}
 use Rattle.responder.specs.Start.{start}
 use Rattle.responder.specs.Tick.{dueFrom, tick}
 use Rattle.responder.specs.Receive.{receive}
-use Rattle.uniqueness.specs.Link.{Link, Station, settingOf, addressOf, SettingFits, Lent, Request, starts, ticks, Call, Receipt, Moment, Observed, off, verifying, owning, stopped, Settled, UniqueName, SameName, OnLink, Conditions, Probe, observed, Every, AnyOrder, Run, OneOwner, first, those, latest}
+use Rattle.uniqueness.specs.Link.{Link, Station, settingOf, addressOf, SettingFits, Lent, Request, starts, ticks, Call, Receipt, Moment, off, verifying, owning, stopped, Settled, SameName, OnLink, Conditions, Probe, observed, Every, AnyOrder, Run, OneOwner, first, those, latest}
 use Rattle.uniqueness.specs.Play.{isAmong, deliver, undelivered, play, plays, inTime, keepsRules, allKeep}
 use Rattle.uniqueness.proofs.Play.{plays-run}
 use Rattle.uniqueness.proofs.Demand3.{demand-3-holds}

@@ -1,25 +1,25 @@
 -- DEMAND 3 follows from the obligations.
 use mathlib.Core.Path.{_≡_, refl, sym, _∙_, ap, subst}
-use mathlib.Core.Logic.{_≢_, _⊎_, inl, inr}
+use mathlib.Core.Logic.{_≢_}
 use mathlib.Core.Bool.{Bool, true, false, not}
 use mathlib.Core.List.{List, List·Memᴰ}
-use Prim.Native.Nat.{ℕ, zero, suc, _+_, _≤_, _<_, max}
+use Prim.Native.Nat.{ℕ, zero, suc, _≤_, _<_, max}
 use native.Mathlib.Decide.{ℕ-discrete}
 use native.Mathlib.Omega.{arith}
 use native.Mathlib.Nat.{le-max-left, le-max-right}
 use Rattle.responder.specs.declared.Host.{Host}
 use Rattle.uniqueness.specs.Link as Spec
-use Rattle.uniqueness.specs.Link.{Sort, sort, sortOf, Link, Station, latest, Call, Moment, Observed, owning, Settled, OneByOne, AnyOrder, Conditions, Probe, observed, Every, Some, fresh, first, OneOwner, Lent, Request, starts, ticks, Keeps, StartRule, Delivered, datagrams, update, isRefused}
-use Rattle.uniqueness.proofs.Model.{St, off, ver, uniq, stopped, LinkModel, World, Holds, Any, Serial}
+use Rattle.uniqueness.specs.Link.{sort, Link, Station, latest, Call, Moment, owning, Settled, OneByOne, AnyOrder, Conditions, Probe, observed, Every, Some, fresh, first, OneOwner, Lent, Request, starts, ticks, Keeps, StartRule, Delivered, datagrams, update, isRefused}
+use Rattle.uniqueness.proofs.Model.{St, off, uniq, stopped, World, Holds, Any}
 use Rattle.uniqueness.proofs.Inv.{by}
-use Rattle.uniqueness.proofs.Exists.{SerialList, serial-exists}
+use Rattle.uniqueness.proofs.Exists.{serial-exists}
 use Rattle.uniqueness.proofs.OneHolder.{one-holder}
 use Rattle.uniqueness.proofs.Serial.{first-holds}
 use Rattle.uniqueness.proofs.Sys.{CWorld, Kind, isOwning, kind, Refines}
-use Rattle.uniqueness.proofs.Lift.{set-up-at, CFresh, CAny, Shown, show-any, show-serial, Exists, exists}
+use Rattle.uniqueness.proofs.Lift.{CFresh, CAny, Shown, show-any, show-serial, Exists, exists}
 use Rattle.uniqueness.proofs.Order.{both-no}
 use Rattle.uniqueness.proofs.Obligations.{top, Obligations}
-use Rattle.uniqueness.proofs.Hosts.{Sent, Inputs, obs, obs-inj, linkModel, Y, Rep, tag, IsQ, IsR, Good, Fit, seen, observes, some-probe, meets, refines}
+use Rattle.uniqueness.proofs.Hosts.{obs, obs-inj, linkModel, Y, Rep, tag, IsQ, IsR, Good, Fit, seen, observes, some-probe, meets, refines}
 use Rattle.uniqueness.proofs.Bridge.{put-update, f2-sent, from-c, worldOf, momentOf, settled-c, settled-d, serial-c, serial-d, run-c, run-d}
 
 latest-after : (s : ℕ → Station) (n k : ℕ) → k < n → s k .time ≤ latest s n

@@ -7,6 +7,7 @@ use mathlib.Core.Bool.{Bool, true, false, cond, not}
 use mathlib.Core.List.{List, [], _∷_, _++_, map, List·Memᴰ}
 use lib.ListN.{getD, take, length}
 use lib.Dec.{eqb}
+use Rattle.responder.specs.Bounds.{room as roomOctets, latest as latestTime}
 use Rattle.octets.specs.Octets.{Octets}
 use Rattle.octets.specs.declared.Address.{Address}
 use Rattle.octets.specs.declared.Endpoint.{Endpoint}
@@ -70,7 +71,7 @@ pub record Lent : Type 0 where
   pub id-fits : id < 65536
   pub out : List ℕ
   pub out-fits : Octets out
-  pub room : 512 ≤ length out
+  pub room : roomOctets ≤ length out
 
 -- an element of the list: "its host, interface, ID and a time .., a start its name number too"
 pub data Request : Type 0 where
@@ -351,7 +352,7 @@ Some L m k x = (p : Probe L) × (observed L m k p ≡ x)
 pub record Keeps (L : Link) (Is : Moment → ℕ → Observed → Type 0) (Order : Moment → ℕ → Type 0) (m : Moment) (c : Call) : Type 0 where
   pub host : c .host < L .count
   -- "a time within the clock's range", "a common clock that never goes back"
-  pub in-range : c .time ≤ 281474976710655
+  pub in-range : c .time ≤ latestTime
   pub forward : m .time ≤ c .time
   -- "A checking host is due an interval after its last query; the clock doesn't pass that before its accepted tick in that millisecond"
   pub due : (k : ℕ) → k < L .count → Is m k verifying → c .time ≤ m .queried k + L .interval
@@ -411,7 +412,7 @@ pub record Uniqueness (L : Link) : Type 0 where
       → (hosts : ℕ → Host)
       × Delivered L (c .time) (update (m .hosts) (c .host) (result L (m .hosts) c .host)) (datagrams L (c .host) (result L (m .hosts) c)) hosts
   -- and each host can be the owner, where three intervals are left of the clock's range
-  pub attained : latest (L .station) (L .count) + L .interval + L .interval + L .interval ≤ 281474976710655 → (w : ℕ) → w < L .count → Owned L w
+  pub attained : latest (L .station) (L .count) + L .interval + L .interval + L .interval ≤ latestTime → (w : ℕ) → w < L .count → Owned L w
 
 abbrev pub Demand3 : Type 0
 Demand3 = (L : Link) → Conditions L → Uniqueness L

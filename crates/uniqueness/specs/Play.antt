@@ -4,6 +4,7 @@ use Prim.Native.Nat.{ℕ, zero, suc, _+_}
 use mathlib.Core.List.{List, [], _∷_, _++_}
 use mathlib.Core.Bool.{Bool, true, false, cond, not}
 use lib.Dec.{ltb, leb, eqb}
+use Rattle.responder.specs.Bounds.{latest as latestTime}
 use Rattle.responder.specs.declared.Host.{Host}
 use Rattle.uniqueness.specs.Link.{Link, Request, starts, ticks, Call, Datagram, Receipt, Moment, Observed, off, verifying, owning, stopped, other, sortOf, datagrams, update, isRefused, after, result, received, Probe, observed}
 
@@ -75,7 +76,7 @@ module _ (L : Link) (x : Receipt) where
     unfoldable pub keepsRules : Moment → Call → Bool
     keepsRules m c =
         cond (ltb (c .host) (L .count))
-        (cond (leb (c .time) 281474976710655)
+        (cond (leb (c .time) latestTime)
         (cond (leb (m .time) (c .time))
         (cond (inTime (L .count) m (c .time))
         (cond (mayStart m (c .host) (c .request) (isRefused (sortOf (result L (m .hosts) c))))
