@@ -1,1 +1,5 @@
 pub mod SetUp
+pub mod Tests
+pub mod Laws
+pub mod ExactlyWhen
+pub mod ThreeQueries

@@ -6,3 +6,6 @@ pub mod SetUp
 pub mod Start
 pub mod Tick
 pub mod Receive
+pub mod Laws
+pub mod ExactlyWhen
+pub mod ThreeQueries
