@@ -232,11 +232,11 @@ module _ (h : Host) (a : Arrival) where
 
 -- ---- what receive does
 
-data Receives (h : Host) (a : Arrival) : Done → Type 0 where
+pub data Receives (h : Host) (a : Arrival) : Done → Type 0 where
   refuses : (t : Told) → Receives h a (refusal h (a .out) t)
   accepts : (d : Decision) → Clear (receiveChecks h a) → decision h a ≡ d → Receives h a (effect d h a)
 
-receive-is : (h : Host) (a : Arrival) → Receives h a (receive h a)
+pub receive-is : (h : Host) (a : Arrival) → Receives h a (receive h a)
 unfolding receive
 receive-is h a = go (verdict (receiveChecks h a)) refl
   where
@@ -249,16 +249,16 @@ unfolding receive
 accepted h a d c e = ap (λ (v : Verdict). receiveIf v h a) (passes (receiveChecks h a) c) ∙ ap (λ (x : Decision). effect x h a) e
 
 -- what is decided, by QR, whether the name is lost, and C
-abbrev decided : Bool → Bool → Bool → Decision
+abbrev pub decided : Bool → Bool → Bool → Decision
 decided response lost conflict = cond response (cond lost stop keep) (cond conflict defend answer)
 
-answers-if : (r l c : Bool) → decided r l c ≡ answer → (r ≡ false) × (c ≡ false)
+pub answers-if : (r l c : Bool) → decided r l c ≡ answer → (r ≡ false) × (c ≡ false)
 answers-if false l false e = (refl, refl)
 answers-if false l true e = (cc, cc)
 answers-if true true c e = (cc, cc)
 answers-if true false c e = (cc, cc)
 
-defends-if : (r l c : Bool) → decided r l c ≡ defend → (r ≡ false) × (c ≡ true)
+pub defends-if : (r l c : Bool) → decided r l c ≡ defend → (r ≡ false) × (c ≡ true)
 defends-if false l true e = (refl, refl)
 defends-if false l false e = (cc, cc)
 defends-if true true c e = (cc, cc)
@@ -283,7 +283,7 @@ module _ (h : Host) (a : Arrival) where
       let t = all-of _ _ .0 (m .0) in
       (t .0, t .1, m .1 .0, m .1 .1 .0)
 
-  query-is : Clear (receiveChecks h a) → header a .response ≡ false → QueryArrives h a (namesIn (checkTable (a .table))) (question a) (nameNumber a)
+  pub query-is : Clear (receiveChecks h a) → header a .response ≡ false → QueryArrives h a (namesIn (checkTable (a .table))) (question a) (nameNumber a)
   query-is c q =
       let r : cond (eqb (header a .answers) 0) (not (eqb (header a .authorities) 0)) true ≡ false = rw q at (ninth h a c .1) in
       let t = all-of _ _ .0 r in
@@ -314,7 +314,7 @@ module _ (h : Host) (a : Arrival) where
 
 -- ---- a reply
 
-replies-only : (h : Host) (a : Arrival) (d : Decision) (len : ℕ) → effect d h a .result ≡ reply len → d ≡ answer
+pub replies-only : (h : Host) (a : Arrival) (d : Decision) (len : ℕ) → effect d h a .result ≡ reply len → d ≡ answer
 replies-only h a answer len e = refl
 replies-only h a defend len e = cc
 replies-only h a stop len e = cc
@@ -350,7 +350,7 @@ replies-exactly h a = (λ r. when (receive-is h a) (r .len) (r .told), back)
 
 -- ---- a defence
 
-defends-only : (h : Host) (a : Arrival) (d : Decision) (k len : ℕ) → effect d h a .result ≡ query k len → (d ≡ defend) × (nameNumber a ≡ k)
+pub defends-only : (h : Host) (a : Arrival) (d : Decision) (k len : ℕ) → effect d h a .result ≡ query k len → (d ≡ defend) × (nameNumber a ≡ k)
 defends-only h a answer k len e = (cc, cc)
 defends-only h a defend k len e = (refl, cc)
 defends-only h a stop k len e = (cc, cc)
@@ -462,7 +462,7 @@ pub record FirstDue (n : ℕ) (names : List Name) (k time j : ℕ) : Type 0 wher
   pub due : isDue (getD names j offName .state) time ≡ true
   pub none : (m : ℕ) → k ≤ m → m < j → isDue (getD names m offName .state) time ≡ false
 
-first-is : (n : ℕ) (names : List Name) (k time j : ℕ) → dueFrom n names k time ≡ due j → FirstDue n names k time j
+pub first-is : (n : ℕ) (names : List Name) (k time j : ℕ) → dueFrom n names k time ≡ due j → FirstDue n names k time j
 unfolding dueFrom
 first-is zero names k time j e = let z : _≡_ {A = ℕ} 0 1 = cc in absurd (omega arith)
 first-is (suc n) names k time j e =
@@ -503,12 +503,12 @@ first-found (suc n) names k time j f =
     (first-found n names (k + 1) time j
     (record { from = omega arith; below = omega arith; due = f .due; none = λ m p q. f .none m (omega arith) q }))))
 
-data Ticks (h : Host) (table : List ℕ) (i time : ℕ) (out : List ℕ) : Done → Type 0 where
+pub data Ticks (h : Host) (table : List ℕ) (i time : ℕ) (out : List ℕ) : Done → Type 0 where
   refuses : (t : Told) → Ticks h table i time out (refusal h out t)
   accepts : (d : Due) → Clear (early h table i time out pass)
       → dueFrom (length (namesIn (checkTable table))) (interfaceOf h i .names) 0 time ≡ d → Ticks h table i time out (serveDue d h table i time out)
 
-tick-is : (h : Host) (table : List ℕ) (i time id : ℕ) (out : List ℕ) → Ticks h table i time out (tick h table i time id out)
+pub tick-is : (h : Host) (table : List ℕ) (i time id : ℕ) (out : List ℕ) → Ticks h table i time out (tick h table i time id out)
 unfolding tick
 tick-is h table i time id out = go (verdict (early h table i time out pass)) refl
   where

@@ -3,3 +3,4 @@ pub mod Tests
 pub mod Laws
 pub mod ExactlyWhen
 pub mod ThreeQueries
+pub mod Sent

@@ -62,12 +62,12 @@ front out xs h = rw (put-in out 0 xs (omega arith), splice-start out xs, take-ap
 -- ---- the start
 
 -- what a start that sends has checked, and what it does
-record Sends (h : Host) (table : List ℕ) (i k time id : ℕ) (out : List ℕ) (d : Done) : Type 0 where
-  clear : Clear (startChecks h table i k time out)
-  done : d
+pub record Sends (h : Host) (table : List ℕ) (i k time id : ℕ) (out : List ℕ) (d : Done) : Type 0 where
+  pub clear : Clear (startChecks h table i k time out)
+  pub done : d
       ≡ asking (withState h i k (Verifying 1 id (timerFrom (settingOf h i) time)) time) (settingOf h i) k (checkQuery id (nameIn table k .octets)) out
 
-start-sends : (h : Host) (table : List ℕ) (i k time id : ℕ) (out : List ℕ) (len : ℕ) → start h table i k time id out .result ≡ query k len
+pub start-sends : (h : Host) (table : List ℕ) (i k time id : ℕ) (out : List ℕ) (len : ℕ) → start h table i k time id out .result ≡ query k len
     → Sends h table i k time id out (start h table i k time id out)
 unfolding start
 start-sends h table i k time id out len = go (verdict (startChecks h table i k time out)) refl

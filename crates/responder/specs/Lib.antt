@@ -9,3 +9,4 @@ pub mod Receive
 pub mod Laws
 pub mod ExactlyWhen
 pub mod ThreeQueries
+pub mod Sent
