@@ -138,8 +138,8 @@ first-pointer : (s : List ℕ) (p run to : ℕ) → Octets s → IsPointer s p r
 first-pointer s p run to o a = omega (arith, a .word, octet-at s (p + 1) o)
 
 -- a reading is what the reader tells of it
-abbrev told : Walk → List Step → RecordNameRead
-told w r =
+abbrev readAs : Walk → List Step → RecordNameRead
+readAs w r =
     Good
     (record {
       next = goesOn w (after (w .at) r);
@@ -207,7 +207,7 @@ pointer-first k s w to r o a =
       };
     }
 
-complete : (k : ℕ) (s : List ℕ) (w : Walk) (r : List Step) → Octets s → Readable k s w r → recordNameFrom k s w ≡ told w r
+complete : (k : ℕ) (s : List ℕ) (w : Walk) (r : List Step) → Octets s → Readable k s w r → recordNameFrom k s w ≡ readAs w r
 unfolding recordNameFrom
 complete zero s w r o a = absurd (omega (arith, a .fuel))
 complete (suc k) s w [] o a =

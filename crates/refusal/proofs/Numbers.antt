@@ -4,7 +4,7 @@ use mathlib.Core.List.{List, [], _∷_}
 use lib.ListN.{getD}
 use Rattle.refusal.specs.declared.Refusal.{Refusal}
 use Rattle.refusal.specs.declared.Refusal.the-variants.{Room, Table, Interface, Clock, Length, Address, Opcode, Rcode, Counts, Question, Class, NotOurs, Stopped, Notification, Unmatched, Own, Tentative, Records, Busy, Settings}
-use Rattle.refusal.specs.Numbers.{Told, number, number-at, told}
+use Rattle.refusal.specs.Numbers.{Report, number, number-at, reportOf}
 
 -- the refusals by their numbers; number 2 tells an offset too
 abbrev by-number : List Refusal
@@ -12,11 +12,11 @@ by-number =
     Room ∷ Room ∷ Table 0 ∷ Interface ∷ Clock ∷ Length ∷ Address ∷ Opcode ∷ Rcode ∷ Counts ∷ Question ∷ Class ∷ NotOurs
     ∷ Stopped ∷ Notification ∷ Unmatched ∷ Own ∷ Tentative ∷ Records ∷ Busy ∷ Settings ∷ []
 
-abbrev untold : Told → Refusal
-untold (number n) = getD by-number n Room
-untold (number-at n at) = Table at
+abbrev refusalOf : Report → Refusal
+refusalOf (number n) = getD by-number n Room
+refusalOf (number-at n at) = Table at
 
-back : (r : Refusal) → untold (told r) ≡ r
+back : (r : Refusal) → refusalOf (reportOf r) ≡ r
 back Room = refl
 back (Table at) = refl
 back Interface = refl
@@ -38,5 +38,5 @@ back Records = refl
 back Busy = refl
 back Settings = refl
 
-pub told-one : (a b : Refusal) → told a ≡ told b → a ≡ b
-told-one a b e = sym (back a) ∙ ap untold e ∙ back b
+pub report-one : (a b : Refusal) → reportOf a ≡ reportOf b → a ≡ b
+report-one a b e = sym (back a) ∙ ap refusalOf e ∙ back b

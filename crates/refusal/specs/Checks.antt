@@ -1,15 +1,15 @@
 -- Checks made in order: the first test that holds decides the refusal; where none holds, the call passes.
 use mathlib.Core.Bool.{Bool, true, false, cond}
 use mathlib.Core.Path.{_≡_}
-use Rattle.refusal.specs.Numbers.{Told}
+use Rattle.refusal.specs.Numbers.{Report}
 
 pub data Checks : Type 0 where
-  -- refused as told where the test holds, else by the checks that follow
-  fail : Bool → Told → Checks → Checks
+  -- refused so where the test holds, else by the checks that follow
+  fail : Bool → Report → Checks → Checks
   pass : Checks
 
 pub data Verdict : Type 0 where
-  refused : Told → Verdict
+  refused : Report → Verdict
   passed : Verdict
 
 unfoldable pub verdict : Checks → Verdict
@@ -18,8 +18,8 @@ verdict pass = passed
 
 -- How a verdict comes about, check by check: those before the one that decides do not hold.
 pub data Gives : Checks → Verdict → Type 0 where
-  next : {b : Bool} {t : Told} {r : Checks} {v : Verdict} → b ≡ false → Gives r v → Gives (fail b t r) v
-  stop : {b : Bool} {t : Told} {r : Checks} → b ≡ true → Gives (fail b t r) (refused t)
+  next : {b : Bool} {t : Report} {r : Checks} {v : Verdict} → b ≡ false → Gives r v → Gives (fail b t r) v
+  stop : {b : Bool} {t : Report} {r : Checks} → b ≡ true → Gives (fail b t r) (refused t)
   done : Gives pass passed
 
 -- no test holds

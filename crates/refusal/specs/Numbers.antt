@@ -4,36 +4,36 @@ use Rattle.refusal.specs.declared.Refusal.{Refusal}
 use Rattle.refusal.specs.declared.Refusal.the-variants.{Room, Table, Interface, Clock, Length, Address, Opcode, Rcode, Counts, Question, Class, NotOurs, Stopped, Notification, Unmatched, Own, Tentative, Records, Busy, Settings}
 
 -- a number; number 2 comes with the offset of the first bad entry of the table
-pub data Told : Type 0 where
-  number : ℕ → Told
-  number-at : ℕ → ℕ → Told
+pub data Report : Type 0 where
+  number : ℕ → Report
+  number-at : ℕ → ℕ → Report
 
-abbrev pub told : Refusal → Told
-told Room = number 1
-told (Table at) = number-at 2 at
-told Interface = number 3
-told Clock = number 4
-told Length = number 5
-told Address = number 6
-told Opcode = number 7
-told Rcode = number 8
-told Counts = number 9
-told Question = number 10
-told Class = number 11
-told NotOurs = number 12
-told Stopped = number 13
+abbrev pub reportOf : Refusal → Report
+reportOf Room = number 1
+reportOf (Table at) = number-at 2 at
+reportOf Interface = number 3
+reportOf Clock = number 4
+reportOf Length = number 5
+reportOf Address = number 6
+reportOf Opcode = number 7
+reportOf Rcode = number 8
+reportOf Counts = number 9
+reportOf Question = number 10
+reportOf Class = number 11
+reportOf NotOurs = number 12
+reportOf Stopped = number 13
 -- document 01 calls a conflict notification a notice
-told Notification = number 14
-told Unmatched = number 15
-told Own = number 16
-told Tentative = number 17
-told Records = number 18
-told Busy = number 19
-told Settings = number 20
+reportOf Notification = number 14
+reportOf Unmatched = number 15
+reportOf Own = number 16
+reportOf Tentative = number 17
+reportOf Records = number 18
+reportOf Busy = number 19
+reportOf Settings = number 20
 
-abbrev pub numberIn : Told → ℕ
+abbrev pub numberIn : Report → ℕ
 numberIn (number n) = n
 numberIn (number-at n at) = n
 
 abbrev pub numberOf : Refusal → ℕ
-numberOf r = numberIn (told r)
+numberOf r = numberIn (reportOf r)

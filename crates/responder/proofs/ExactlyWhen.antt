@@ -11,7 +11,7 @@ use borrow.Author.Tests.{eqb-true, eqb-false, eq-eqb, leb-true, le-leb, ltb-fals
 use Rattle.octets.specs.Addresses.{isFamily, isGroup, addressOf, belowAddress}
 use Rattle.octets.specs.declared.Address.{Address}
 use Rattle.octets.proofs.Tests.{split, both, either, never, same-number}
-use Rattle.refusal.specs.Numbers.{Told, number}
+use Rattle.refusal.specs.Numbers.{Report, number}
 use Rattle.refusal.specs.Checks.{Checks, fail, pass, Verdict, refused as refusedBy, passed, verdict, Clear}
 use Rattle.refusal.proofs.Checks.{clear, passes}
 use Rattle.name_table.specs.declared.Found.{Found}
@@ -25,7 +25,7 @@ use Rattle.responder.specs.State.{offName, interfaceOf, settingOf, state
 use Rattle.responder.specs.Outcomes.{Done, refusal, query, reply, stopped as stoppedName, unique as uniqueName}
 use Rattle.responder.specs.Early.{early, namesIn, isBad as isBadTable}
 use Rattle.responder.specs.Tick.{isDue, Due, due, none, dueFrom, serve, serveDue, tickIf, tick}
-use Rattle.responder.specs.Receive.{Arrival, header, questionOr, isBad, question, asked, found, isFound, numberOr, nameNumber, state, fromUs, badLength, badAddress, badClass, badNotification, queryChecks, responseChecks, awaits, arrivalChecks, messageChecks, receiveChecks, Decision, answer, defend, stop, keep, loses, decision, effect, receiveIf, receive}
+use Rattle.responder.specs.Receive.{Arrival, header, questionOr, isBadQuestion, question, asked, found, isFound, numberOr, nameNumber, state, fromUs, badLength, badAddress, badClass, badNotification, queryChecks, responseChecks, awaits, arrivalChecks, messageChecks, receiveChecks, Decision, answer, defend, stop, keep, loses, decision, effect, receiveIf, receive}
 use Rattle.responder.specs.ExactlyWhen.{CalledWell, ArrivesWell, QueryArrives, Replies, RepliesWhen, Asks, DefendsWhen, WaitsFor, TakenBy, StopsWhen, DueBy, HasAsked, BecomesUniqueWhen}
 use Rattle.responder.specs.declared.Name.{Name}
 use Rattle.responder.specs.declared.NameState.{NameState}
@@ -39,7 +39,7 @@ good-is : (c : Checked) → isBadTable c ≡ false → c ≡ good (namesIn c)
 good-is (good hs) e = refl
 good-is (bad at) e = never refl e
 
-question-good : (r : QuestionRead) → isBad r ≡ false → r ≡ Good (questionOr r)
+question-good : (r : QuestionRead) → isBadQuestion r ≡ false → r ≡ Good (questionOr r)
 question-good (Good q) e = refl
 question-good Bad e = never refl e
 
@@ -218,7 +218,7 @@ module _ (h : Host) (a : Arrival) where
                 (
                   all-of _ _ .1 (eq-eqb _ _ (w .one-question), records),
                   (
-                    ap isBad (w .question),
+                    ap isBadQuestion (w .question),
                     (
                       class,
                       c,
@@ -233,7 +233,7 @@ module _ (h : Host) (a : Arrival) where
 -- ---- what receive does
 
 pub data Receives (h : Host) (a : Arrival) : Done → Type 0 where
-  refuses : (t : Told) → Receives h a (refusal h (a .out) t)
+  refuses : (t : Report) → Receives h a (refusal h (a .out) t)
   accepts : (d : Decision) → Clear (receiveChecks h a) → decision h a ≡ d → Receives h a (effect d h a)
 
 pub receive-is : (h : Host) (a : Arrival) → Receives h a (receive h a)
@@ -322,7 +322,7 @@ replies-only h a keep len e = cc
 
 -- A reply goes out exactly when the conditions of RepliesWhen hold.
 pub replies-exactly : (h : Host) (a : Arrival) → Replies (receive h a) ↔ RepliesWhen h a
-replies-exactly h a = (λ r. when (receive-is h a) (r .len) (r .told), back)
+replies-exactly h a = (λ r. when (receive-is h a) (r .len) (r .gives), back)
   where
     when : {d : Done} → Receives h a d → (len : ℕ) → d .result ≡ reply len → RepliesWhen h a
     when (refuses t) len e = let z : _≡_ {A = ℕ} 0 1 = cc in absurd (omega arith)
@@ -346,7 +346,7 @@ replies-exactly h a = (λ r. when (receive-is h a) (r .len) (r .told), back)
         let p : is stopped (state h a) ≡ false = rw s (not-stopped _ .1 (w .not-stopped)) in
         let n : badNotification h a ≡ false = rw (w .c-clear) in
         let d : decision h a ≡ answer = rw (w .query .is-query, w .c-clear) in
-        record { len = _; told = ap (λ (x : Done). x .result) (accepted h a answer (query-clear h a (w .names) (w .q) (w .k) (w .query) o p n) d) }
+        record { len = _; gives = ap (λ (x : Done). x .result) (accepted h a answer (query-clear h a (w .names) (w .q) (w .k) (w .query) o p n) d) }
 
 -- ---- a defence
 
@@ -358,7 +358,7 @@ defends-only h a keep k len e = (cc, cc)
 
 -- A query of our own goes out on a datagram exactly when the conditions of DefendsWhen hold.
 pub defends-exactly : (h : Host) (a : Arrival) (k : ℕ) → Asks k (receive h a) ↔ DefendsWhen h a k
-defends-exactly h a k = (λ r. when (receive-is h a) (r .len) (r .told), back)
+defends-exactly h a k = (λ r. when (receive-is h a) (r .len) (r .gives), back)
   where
     when : {d : Done} → Receives h a d → (len : ℕ) → d .result ≡ query k len → DefendsWhen h a k
     when (refuses t) len e = let z : _≡_ {A = ℕ} 0 1 = cc in absurd (omega arith)
@@ -386,7 +386,7 @@ defends-exactly h a k = (λ r. when (receive-is h a) (r .len) (r .told), back)
         let d : decision h a ≡ defend = rw (w .query .is-query, w .c-set) in
         record {
           len = length (queryOctets (a .id) 0 (asked a));
-          told =
+          gives =
               ap (λ (x : Done). x .result) (accepted h a defend (query-clear h a (w .names) (w .q) k (w .query) o p n) d)
               ∙ ap (λ (j : ℕ). query j (length (queryOctets (a .id) 0 (asked a)))) (number-is h a (w .names) (w .q) k (w .query .arrives));
         }
@@ -504,7 +504,7 @@ first-found (suc n) names k time j f =
     (record { from = omega arith; below = omega arith; due = f .due; none = λ m p q. f .none m (omega arith) q }))))
 
 pub data Ticks (h : Host) (table : List ℕ) (i time : ℕ) (out : List ℕ) : Done → Type 0 where
-  refuses : (t : Told) → Ticks h table i time out (refusal h out t)
+  refuses : (t : Report) → Ticks h table i time out (refusal h out t)
   accepts : (d : Due) → Clear (early h table i time out pass)
       → dueFrom (length (namesIn (checkTable table))) (interfaceOf h i .names) 0 time ≡ d → Ticks h table i time out (serveDue d h table i time out)
 

@@ -13,12 +13,12 @@ use borrow.Author.Tests.{leb-true, leb-false}
 use Rattle.octets.specs.declared.Endpoint.{Endpoint}
 use Rattle.octets.specs.declared.Setting.{Setting}
 use Rattle.octets.proofs.Tests.{split, never}
-use Rattle.refusal.specs.Numbers.{Told}
+use Rattle.refusal.specs.Numbers.{Report}
 use Rattle.refusal.specs.Checks.{pass, Verdict, refused as refusedBy, passed, verdict}
 use Rattle.name_table.specs.Kinds.{kindOf}
 use Rattle.name_table.specs.Check.{checkTable}
 use Rattle.responder.specs.Bounds.{sendsInAll}
-use Rattle.responder.specs.State.{offName, noInterface, interfaceOf, settingsOf, stateOf, withClock, withState}
+use Rattle.responder.specs.State.{offName, absent, interfaceOf, settingsOf, stateOf, withClock, withState}
 use Rattle.responder.specs.Outcomes.{Result, refused, ready, quiet, kept, unique, shared, stopped, query, reply, Done, refusal}
 use Rattle.responder.specs.Early.{early, namesIn}
 use Rattle.responder.specs.SetUp.{zeroHost, setUpChecks, setUpBy, setUp}
@@ -47,7 +47,7 @@ isRefused (reply len) = false
 
 -- it refuses, or keeps every name, or changes the state of the k-th on interface i
 data Does (h : Host) (i k time : ℕ) (out : List ℕ) : Done → Type 0 where
-  refuses : (t : Told) → Does h i k time out (refusal h out t)
+  refuses : (t : Report) → Does h i k time out (refusal h out t)
   keeps : {r : Result} {to : Endpoint} {octets : List ℕ} → isRefused r ≡ false
       → Does h i k time out (record { host = withClock h time; result = r; to = to; octets = octets })
   changes : {r : Result} {to : Endpoint} {octets : List ℕ} (s : NameState) → isRefused r ≡ false
@@ -119,12 +119,12 @@ receive-does h a = go (verdict (receiveChecks h a))
 pub other-names : (h : Host) (i k time : ℕ) (s : NameState) (j : ℕ) → j ≢ k → stateOf (withState h i k s time) i j ≡ stateOf h i j
 other-names h i k time s j n =
     split (leb (length (h .interfaces)) i)
-    (λ p. ap (λ (l : List Interface). getD (getD l i noInterface .names) j offName .state) (set-out (h .interfaces) i _ (leb-true _ _ p)))
-    (λ p. ap (λ (x : Interface). getD (x .names) j offName .state) (getD-set-same (h .interfaces) i _ noInterface (leb-false _ _ p))
+    (λ p. ap (λ (l : List Interface). getD (getD l i absent .names) j offName .state) (set-out (h .interfaces) i _ (leb-true _ _ p)))
+    (λ p. ap (λ (x : Interface). getD (x .names) j offName .state) (getD-set-same (h .interfaces) i _ absent (leb-false _ _ p))
     ∙ ap (λ (x : Name). x .state) (getD-set-other (interfaceOf h i .names) k j _ offName n))
 
 module _ {h : Host} {i k time : ℕ} {out : List ℕ} where
-  unchanged : {d : Done} → Does h i k time out d → (t : Told) → d .result ≡ refused t → Unchanged h out d
+  unchanged : {d : Done} → Does h i k time out d → (t : Report) → d .result ≡ refused t → Unchanged h out d
   unchanged (refuses u) t e = record { host = refl; octets = refl; to = refl }
   unchanged (keeps p) t e = never (ap isRefused e) p
   unchanged (changes s p) t e = never (ap isRefused e) p
@@ -139,15 +139,15 @@ module _ {h : Host} {i k time : ℕ} {out : List ℕ} where
   only (keeps p) = record { interfaces = λ j n. refl; names = λ j n. refl; settings = refl }
   only (changes s p) =
       record {
-        interfaces = λ j n. getD-set-other (h .interfaces) i j _ noInterface n;
+        interfaces = λ j n. getD-set-other (h .interfaces) i j _ absent n;
         names = other-names h i k time s;
-        settings = map-set-same (λ (x : Interface). x .setting) (h .interfaces) i _ noInterface refl;
+        settings = map-set-same (λ (x : Interface). x .setting) (h .interfaces) i _ absent refl;
       }
 
 -- ---- A refusal changes nothing: not the state, not its clock, not an octet of the buffer; and nothing is sent.
 
 -- A refused set-up gives a host with all interfaces unused and all else zero.
-pub set-up-refused : (table : List ℕ) (settings : List Setting) (time id : ℕ) (t : Told) → setUp table settings time id .result ≡ refused t
+pub set-up-refused : (table : List ℕ) (settings : List Setting) (time id : ℕ) (t : Report) → setUp table settings time id .result ≡ refused t
     → Unchanged zeroHost [] (setUp table settings time id)
 unfolding setUp
 set-up-refused table settings time id t = go (verdict (setUpChecks table settings time))
@@ -156,15 +156,15 @@ set-up-refused table settings time id t = go (verdict (setUpChecks table setting
     go (refusedBy u) e = record { host = refl; octets = refl; to = refl }
     go passed e = never (ap isRefused e) refl
 
-pub start-refused : (h : Host) (table : List ℕ) (i k time id : ℕ) (out : List ℕ) (t : Told) → start h table i k time id out .result ≡ refused t
+pub start-refused : (h : Host) (table : List ℕ) (i k time id : ℕ) (out : List ℕ) (t : Report) → start h table i k time id out .result ≡ refused t
     → Unchanged h out (start h table i k time id out)
 start-refused h table i k time id out = unchanged (start-does h table i k time id out)
 
-pub tick-refused : (h : Host) (table : List ℕ) (i time id : ℕ) (out : List ℕ) (t : Told) → tick h table i time id out .result ≡ refused t
+pub tick-refused : (h : Host) (table : List ℕ) (i time id : ℕ) (out : List ℕ) (t : Report) → tick h table i time id out .result ≡ refused t
     → Unchanged h out (tick h table i time id out)
 tick-refused h table i time id out = unchanged (tick-does h table i time id out)
 
-pub receive-refused : (h : Host) (a : Arrival) (t : Told) → receive h a .result ≡ refused t → Unchanged h (a .out) (receive h a)
+pub receive-refused : (h : Host) (a : Arrival) (t : Report) → receive h a .result ≡ refused t → Unchanged h (a .out) (receive h a)
 receive-refused h a = unchanged (receive-does h a)
 
 -- ---- An accepted call sets the clock to its time.
@@ -205,18 +205,18 @@ receive-only h a = only (receive-does h a)
 
 -- ---- What a call gives depends on the clock, all settings, its own interface's names and its inputs, and on nothing else.
 
--- the length of a list of interfaces is told by their settings
+-- the length of a list of interfaces is that of their settings
 length-map : (l : List Interface) → length (settingsOf l) ≡ length l
 length-map [] = refl
 length-map (x ∷ l) = ap suc (length-map l)
 
 -- the same is stored at the same place
-set-here : (l m : List Interface) (i : ℕ) (x : Interface) → length l ≡ length m → getD l i noInterface ≡ getD m i noInterface
-    → getD (set l i x) i noInterface ≡ getD (set m i x) i noInterface
+set-here : (l m : List Interface) (i : ℕ) (x : Interface) → length l ≡ length m → getD l i absent ≡ getD m i absent
+    → getD (set l i x) i absent ≡ getD (set m i x) i absent
 set-here l m i x n e =
     split (leb (length l) i)
     (λ p. let q : length m ≤ i = omega (arith, leb-true (length l) i p) in rw (set-out l i x (leb-true _ _ p), set-out m i x q) e)
-    (λ p. let q : i < length m = omega (arith, leb-false (length l) i p) in rw (getD-set-same l i x noInterface (leb-false _ _ p), getD-set-same m i x noInterface q))
+    (λ p. let q : i < length m = omega (arith, leb-false (length l) i p) in rw (getD-set-same l i x absent (leb-false _ _ p), getD-set-same m i x absent q))
 
 module _ (h g : Host) (i : ℕ) (same : SameHere h g i) where
   same-clock : (time : ℕ) → SameHere (withClock h time) (withClock g time) i
@@ -227,18 +227,18 @@ module _ (h g : Host) (i : ℕ) (same : SameHere h g i) where
       record {
         clock = refl;
         settings =
-            map-set-same (λ (x : Interface). x .setting) (h .interfaces) i _ noInterface refl ∙ same .settings
-            ∙ sym (map-set-same (λ (x : Interface). x .setting) (g .interfaces) i _ noInterface refl);
+            map-set-same (λ (x : Interface). x .setting) (h .interfaces) i _ absent refl ∙ same .settings
+            ∙ sym (map-set-same (λ (x : Interface). x .setting) (g .interfaces) i _ absent refl);
         here =
             set-here (h .interfaces) (g .interfaces) i _
             (sym (length-map (h .interfaces)) ∙ ap length (same .settings) ∙ length-map (g .interfaces)) (same .here)
-            ∙ ap (λ (x : Interface). getD (set (g .interfaces) i (record { setting = x .setting; names = set (x .names) k (record { state = s }) })) i noInterface) (same .here);
+            ∙ ap (λ (x : Interface). getD (set (g .interfaces) i (record { setting = x .setting; names = set (x .names) k (record { state = s }) })) i absent) (same .here);
       }
 
   same-changed : (k : ℕ) (s u : NameState) → s ≡ u → (time : ℕ) → SameHere (withState h i k s time) (withState g i k u time) i
   same-changed k s u e time = subst (λ (v : NameState). SameHere (withState h i k s time) (withState g i k v time) i) e (same-state k s time)
 
-  same-refusal : (out : List ℕ) (t : Told) → SameDone (refusal h out t) (refusal g out t) i
+  same-refusal : (out : List ℕ) (t : Report) → SameDone (refusal h out t) (refusal g out t) i
   same-refusal out t = record { result = refl; to = refl; octets = refl; after = same }
 
   start-alike : (table : List ℕ) (k time id : ℕ) (out : List ℕ) → SameDone (start h table i k time id out) (start g table i k time id out) i

@@ -129,8 +129,11 @@ tick-read h table i k time id out len o = go (tick-is h table i time id out)
         let m : j ≡ k = cc in
         let n : length (checkQuery own (nameIn table j .octets)) ≡ len = cc in
         let w = check-written table (namesIn (checkTable table)) j own out o (c .good-table) l (c .room) in
-        rw t (own, subst (λ (x : ℕ). ReadAsCheck (take len (put out 0 (checkQuery own (nameIn table j .octets)))) own (nameIn table x .octets)) m
-        (subst (λ (x : ℕ). ReadAsCheck (take x (put out 0 (checkQuery own (nameIn table j .octets)))) own (nameIn table j .octets)) n w)))
+        rw t (
+          own,
+          subst (λ (x : ℕ). ReadAsCheck (take len (put out 0 (checkQuery own (nameIn table j .octets)))) own (nameIn table x .octets)) m
+              (subst (λ (x : ℕ). ReadAsCheck (take x (put out 0 (checkQuery own (nameIn table j .octets)))) own (nameIn table j .octets)) n w),
+        ))
         (λ t. absurd (let z : _≡_ {A = ℕ} 0 1 = cc (rw t at e) in omega arith))
     by Off j c l e = absurd (let z : _≡_ {A = ℕ} 0 1 = cc in omega arith)
     by Unique j c l e = absurd (let z : _≡_ {A = ℕ} 0 1 = cc in omega arith)
@@ -184,8 +187,8 @@ defence-read h a k len o = go (receive-is h a)
           header-is = ap headerAt (sym q) ∙ query-header (a .id) 0 (asked a) [];
           question-is =
               ap (λ (x : List ℕ). questionAt x 12) (sym q)
-                  ∙ query-copies (a .id) 0 (a .datagram) 12 (question a) [] o (is-question h a o _ _ w)
-                  ∙ same-question h a o _ _ w;
+              ∙ query-copies (a .id) 0 (a .datagram) 12 (question a) [] o (is-question h a o _ _ w)
+              ∙ same-question h a o _ _ w;
         })
 
     go : {d : Done} → Receives h a d → d .result ≡ query k len → ReadAsDefence (take len (d .octets)) a
@@ -236,8 +239,8 @@ reply-read h a len o = go (receive-is h a)
           header-is = ap headerAt (sym (append-nil b)) ∙ reads-header room head (asked a) (question a .qtype) answers [];
           question-is =
               ap (λ (x : List ℕ). questionAt x 12) laid
-                  ∙ question-moves (a .datagram) 12 (question a) o (is-question h a o _ _ w) front-octets (answersOctets (taken .answers))
-                  ∙ same-question h a o _ _ w;
+              ∙ question-moves (a .datagram) 12 (question a) o (is-question h a o _ _ w) front-octets (answersOctets (taken .answers))
+              ∙ same-question h a o _ _ w;
           octets-are = behind b (asked a) (answersOctets (taken .answers)) (question a .end) (ap (drop 12) laid) least (omega (arith, asked-length h a o _ _ w, is-question h a o _ _ w .end));
           least = least;
           most = reply-within room head (asked a) (question a .qtype) answers s;

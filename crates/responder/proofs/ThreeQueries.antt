@@ -23,7 +23,7 @@ use Rattle.name_table.proofs.Entries.{AreNames}
 use Rattle.name_table.proofs.Meaning.{all-names, good-iff}
 use Rattle.names.specs.Names.{encode}
 use Rattle.message.specs.Query.{queryOctets}
-use Rattle.responder.specs.State.{offName, noInterface, interfaceOf, settingOf, stateOf, withState, intervalOf, timerFrom}
+use Rattle.responder.specs.State.{offName, absent, interfaceOf, settingOf, stateOf, withState, intervalOf, timerFrom}
 use Rattle.responder.specs.Outcomes.{Done, query}
 use Rattle.responder.specs.Early.{early, namesIn}
 use Rattle.responder.specs.Start.{noName, nameIn, isIdle, isSharedKind, startChecks, checkQuery, asking, started, startIf, start}
@@ -94,7 +94,7 @@ record Checking (h g : Host) (i k id n t : ℕ) : Type 0 where
 
 module _ (h g : Host) (i k : ℕ) (inside : i < length (g .interfaces)) (place : k < length (interfaceOf g i .names)) where
   here : (s : NameState) (t : ℕ) → interfaceOf (withState g i k s t) i ≡ record { setting = settingOf g i; names = set (interfaceOf g i .names) k (record { state = s }) }
-  here s t = getD-set-same (g .interfaces) i _ noInterface inside
+  here s t = getD-set-same (g .interfaces) i _ absent inside
 
   stored : (s : NameState) (t : ℕ) → stateOf (withState g i k s t) i k ≡ s
   stored s t =

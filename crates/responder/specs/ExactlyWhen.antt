@@ -7,15 +7,18 @@ use mathlib.Core.Logic.{_≢_, _⊎_}
 use mathlib.Core.List.{List}
 use mathlib.Core.Bool.{Bool, true, false}
 use lib.ListN.{length}
+use Rattle.octets.specs.Bounds.{interfaces, ipv4, ipv6}
 use Rattle.octets.specs.Octets.{partOf}
 use Rattle.octets.specs.Addresses.{isGroup, addressOf, isOurs, belowAddress}
 use Rattle.octets.specs.declared.Address.{Address}
 use Rattle.name_table.specs.declared.Found.the-variants.{At}
 use Rattle.name_table.specs.Check.{Held, good, checkTable, findName}
+use Rattle.message.specs.Bounds.{headerOctets, classIN, typeANY}
 use Rattle.message.specs.declared.Question.{Question}
 use Rattle.message.specs.declared.QuestionRead.the-variants.{Good}
 use Rattle.message.specs.Header.{headerOf}
 use Rattle.message.specs.Question.{questionAt}
+use Rattle.responder.specs.Bounds.{anyClass, sendsInAll, room as roomOctets, latest as latestTime, shortest as shortestDatagram, longest as longestDatagram}
 use Rattle.responder.specs.State.{settingOf, settingsOf, stateOf}
 use Rattle.responder.specs.Outcomes.{Done, query, reply}
 use Rattle.responder.specs.Receive.{Arrival}
@@ -26,19 +29,19 @@ use Rattle.responder.specs.declared.Host.{Host}
 -- What every call after set-up needs: a buffer of 512 octets, a good table, a used interface, and a time that is neither above 2^48 - 1
 -- nor before the last accepted one.
 pub record CalledWell (h : Host) (table : List ℕ) (i time : ℕ) (out : List ℕ) (names : List Held) : Type 0 where
-  pub room : 512 ≤ length out
+  pub room : roomOctets ≤ length out
   -- the table is good, and these are its names
   pub good-table : checkTable table ≡ good names
-  pub interface : i < 4
-  pub used : (settingOf h i .family ≡ 4) ⊎ (settingOf h i .family ≡ 6)
-  pub latest : time ≤ 281474976710655
+  pub interface : i < interfaces
+  pub used : (settingOf h i .family ≡ ipv4) ⊎ (settingOf h i .family ≡ ipv6)
+  pub latest : time ≤ latestTime
   pub in-order : h .clock ≤ time
 
 -- What every accepted datagram has, query or response: it asks the question q, for the k-th of these names.
 pub record ArrivesWell (h : Host) (a : Arrival) (names : List Held) (q : Question) (k : ℕ) : Type 0 where
   pub called : CalledWell h (a .table) (a .interface) (a .time) (a .out) names
-  pub shortest : 12 ≤ length (a .datagram)
-  pub longest : length (a .datagram) ≤ 9194
+  pub shortest : shortestDatagram ≤ length (a .datagram)
+  pub longest : length (a .datagram) ≤ longestDatagram
   -- both addresses are of the interface's family
   pub from-family : a .from .address .family ≡ settingOf h (a .interface) .family
   pub to-family : a .to .family ≡ settingOf h (a .interface) .family
@@ -46,9 +49,9 @@ pub record ArrivesWell (h : Host) (a : Arrival) (names : List Held) (q : Questio
   -- QDCOUNT
   pub one-question : headerOf (a .datagram) .questions ≡ 1
   -- it stands after the header
-  pub question : questionAt (a .datagram) 12 ≡ Good q
+  pub question : questionAt (a .datagram) headerOctets ≡ Good q
   -- its name is the k-th of the table
-  pub name : findName names (partOf (a .datagram) 12 (12 + q .name)) ≡ At k
+  pub name : findName names (partOf (a .datagram) headerOctets (headerOctets + q .name)) ≡ At k
 
 -- And a query besides.
 pub record QueryArrives (h : Host) (a : Arrival) (names : List Held) (q : Question) (k : ℕ) : Type 0 where
@@ -60,13 +63,13 @@ pub record QueryArrives (h : Host) (a : Arrival) (names : List Held) (q : Questi
   pub no-answers : headerOf (a .datagram) .answers ≡ 0
   pub no-authorities : headerOf (a .datagram) .authorities ≡ 0
   -- Internet, or any
-  pub class : (q .class ≡ 1) ⊎ (q .class ≡ 255)
+  pub class : (q .class ≡ classIN) ⊎ (q .class ≡ anyClass)
 
 -- ---- A reply goes out.
 
 pub record Replies (d : Done) : Type 0 where
   pub len : ℕ
-  pub told : d .result ≡ reply len
+  pub gives : d .result ≡ reply len
 
 -- C is clear, and the name is neither Off nor Stopped on this interface.
 pub record RepliesWhen (h : Host) (a : Arrival) : Type 0 where
@@ -82,7 +85,7 @@ pub record RepliesWhen (h : Host) (a : Arrival) : Type 0 where
 
 pub record Asks (k : ℕ) (d : Done) : Type 0 where
   pub len : ℕ
-  pub told : d .result ≡ query k len
+  pub gives : d .result ≡ query k len
 
 -- C is set, the name is Unique on this interface, and the source is none of our addresses.
 pub record DefendsWhen (h : Host) (a : Arrival) (k : ℕ) : Type 0 where
@@ -97,7 +100,7 @@ pub record DefendsWhen (h : Host) (a : Arrival) (k : ℕ) : Type 0 where
 
 -- A name waits for a response with an ID, a type and a class: those of the query that it sent. While Verifying that was type 255, class 1.
 abbrev pub WaitsFor : NameState → ℕ → ℕ → ℕ → Type 0
-WaitsFor (Verifying sends own timer) id qtype class = (id ≡ own) × (qtype ≡ 255) × (class ≡ 1)
+WaitsFor (Verifying sends own timer) id qtype class = (id ≡ own) × (qtype ≡ typeANY) × (class ≡ classIN)
 WaitsFor (Defending own own-type own-class timer) id qtype class = (id ≡ own) × (qtype ≡ own-type) × (class ≡ own-class)
 WaitsFor Off id qtype class = ⊥
 WaitsFor Unique id qtype class = ⊥
@@ -139,7 +142,7 @@ DueBy Shared time = ⊥
 
 -- Its check has sent all that it sends: three queries while Verifying, one while Defending.
 abbrev pub HasAsked : NameState → Type 0
-HasAsked (Verifying sends own timer) = 3 ≤ sends
+HasAsked (Verifying sends own timer) = sendsInAll ≤ sends
 HasAsked (Defending own own-type own-class timer) = Unit
 HasAsked Off = ⊥
 HasAsked Unique = ⊥

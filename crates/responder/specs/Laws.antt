@@ -5,7 +5,7 @@ use mathlib.Core.Logic.{_≢_}
 use mathlib.Core.List.{List, [], _∷_}
 use mathlib.Core.Bool.{cond}
 use lib.Dec.{eqb}
-use Rattle.refusal.specs.Numbers.{Told, numberIn}
+use Rattle.refusal.specs.Numbers.{Report, numberIn}
 use Rattle.refusal.specs.Checks.{Checks, fail, pass, verdict}
 use Rattle.responder.specs.State.{interfaceOf, settingsOf, stateOf}
 use Rattle.responder.specs.Outcomes.{refused, Done, nowhere}
@@ -21,7 +21,7 @@ pub record Unchanged (h : Host) (out : List ℕ) (d : Done) : Type 0 where
 
 -- A call is accepted: what it gives is no refusal, whatever the number.
 abbrev pub Accepted : Done → Type 0
-Accepted d = (t : Told) → d .result ≢ refused t
+Accepted d = (t : Report) → d .result ≢ refused t
 
 -- Between the states h and later, only the k-th name of interface i may have changed, and the clock.
 pub record OnlyChanges (h later : Host) (i k : ℕ) : Type 0 where

@@ -3,7 +3,7 @@ use Prim.Native.Nat.{ℕ}
 use mathlib.Core.List.{List}
 use lib.ListN.{replicate}
 use Rattle.octets.specs.declared.Endpoint.{Endpoint}
-use Rattle.refusal.specs.Numbers.{Told, told}
+use Rattle.refusal.specs.Numbers.{Report, reportOf}
 use Rattle.responder.specs.declared.Host.{Host}
 use Rattle.responder.specs.declared.Outcome.{Outcome}
 use Rattle.responder.specs.declared.Outcome.the-variants.{Refused, Ready, Quiet, Kept, Query, Reply, Unique, Shared, Stopped}
@@ -11,14 +11,14 @@ use Rattle.responder.specs.declared.Step.{Step}
 
 -- what an outcome tells: a refusal's number, or what was done, with the name's number and the octets written
 pub data Result : Type 0 where
-  refused : Told → Result
+  refused : Report → Result
   ready quiet : Result
   kept unique shared stopped : ℕ → Result
   query : ℕ → ℕ → Result
   reply : ℕ → Result
 
 abbrev pub resultOf : Outcome → Result
-resultOf (Refused r) = refused (told r)
+resultOf (Refused r) = refused (reportOf r)
 resultOf Ready = ready
 resultOf Quiet = quiet
 resultOf (Kept k) = kept k
@@ -40,7 +40,7 @@ pub record Done : Type 0 where
   pub octets : List ℕ
 
 -- a refusal leaves the state, its clock too, and every octet
-abbrev pub refusal : Host → List ℕ → Told → Done
+abbrev pub refusal : Host → List ℕ → Report → Done
 refusal h out t = record { host = h; result = refused t; to = nowhere; octets = out }
 
 -- nothing is sent

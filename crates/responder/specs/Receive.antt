@@ -50,9 +50,9 @@ abbrev pub questionOr : QuestionRead → Question
 questionOr (Good q) = q
 questionOr Bad = record { name = 0; qtype = 0; class = 0; end = 0 }
 
-abbrev pub isBad : QuestionRead → Bool
-isBad (Good q) = false
-isBad Bad = true
+abbrev pub isBadQuestion : QuestionRead → Bool
+isBadQuestion (Good q) = false
+isBadQuestion Bad = true
 
 abbrev pub question : Arrival → Question
 question a = questionOr (questionAt (a .datagram) headerOctets)
@@ -146,7 +146,7 @@ messageChecks a rest =
     fail (not (eqb (header a .opcode) 0)) (number 7)
     (fail (cond (header a .response) (not (eqb (header a .rcode) 0)) false) (number 8)
     (fail (badCounts (header a)) (number 9)
-    (fail (isBad (questionAt (a .datagram) headerOctets)) (number 10)
+    (fail (isBadQuestion (questionAt (a .datagram) headerOctets)) (number 10)
     (fail (cond (header a .response) false (badClass (question a .class))) (number 11)
     rest))))
 

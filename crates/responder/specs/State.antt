@@ -18,11 +18,11 @@ use Rattle.responder.specs.declared.Host.{Host}
 abbrev pub offName : Name
 offName = record { state = Off }
 
-abbrev pub noInterface : Interface
-noInterface = record { setting = unused; names = [] }
+abbrev pub absent : Interface
+absent = record { setting = unused; names = [] }
 
 abbrev pub interfaceOf : Host → ℕ → Interface
-interfaceOf h i = getD (h .interfaces) i noInterface
+interfaceOf h i = getD (h .interfaces) i absent
 
 abbrev pub settingOf : Host → ℕ → Setting
 settingOf h i = interfaceOf h i .setting

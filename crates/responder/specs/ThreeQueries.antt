@@ -3,6 +3,7 @@ use Prim.Native.Nat.{ℕ, _+_, _<_, _≤_}
 use mathlib.Core.Path.{_≡_}
 use mathlib.Core.List.{List}
 use lib.ListN.{length, take}
+use Rattle.responder.specs.Bounds.{room as roomOctets, latest as latestTime}
 use Rattle.responder.specs.State.{interfaceOf, settingOf, stateOf, intervalOf}
 use Rattle.responder.specs.Outcomes.{Done, query, unique}
 use Rattle.responder.specs.Start.{nameIn, checkQuery, start}
@@ -48,10 +49,10 @@ pub record Served (h : Host) (i k : ℕ) (s x y z : Given) : Type 0 where
   pub first : s .time + intervalOf (settingOf h i) ≤ x .time
   pub second : x .time + intervalOf (settingOf h i) ≤ y .time
   pub third : y .time + intervalOf (settingOf h i) ≤ z .time
-  pub latest : z .time ≤ 281474976710655
-  pub first-room : 512 ≤ length (x .out)
-  pub second-room : 512 ≤ length (y .out)
-  pub third-room : 512 ≤ length (z .out)
+  pub latest : z .time ≤ latestTime
+  pub first-room : roomOctets ≤ length (x .out)
+  pub second-room : roomOctets ≤ length (y .out)
+  pub third-room : roomOctets ≤ length (z .out)
   pub alone : (j : ℕ) → j < k → DueBy (stateOf h i j) (z .time) → ⊥
 
 -- The query goes out three times with the same octets: the ID of the start, flags 0, the name as in the table, type 255, class 1. Then

@@ -17,7 +17,7 @@ use Rattle.responder.specs.declared.NameState.the-variants.{Unique as IsUnique,
 use Rattle.responder.specs.declared.Name.{Name}
 use Rattle.responder.specs.declared.Interface.{Interface}
 use Rattle.responder.specs.declared.Host.{Host}
-use Rattle.refusal.specs.Numbers.{Told}
+use Rattle.refusal.specs.Numbers.{Report}
 use Rattle.responder.specs.Outcomes.{Done, Result, refused as Refused, ready as Ready, quiet as Quiet, kept as Kept, query as Query, reply as Reply, unique as Unique, shared as Shared, stopped as Stopped}
 use Rattle.octets.specs.Octets.{Octets}
 use Rattle.octets.specs.Addresses.{belowAddress, groupOf}
@@ -90,7 +90,7 @@ pub record Inputs : Type 0 where
   pub name : ℕ
   pub lent : Lent
 
-refused-is : (o : Result) → not (isRefused (sort o)) ≡ false → (r : Told) × (o ≡ Refused r)
+refused-is : (o : Result) → not (isRefused (sort o)) ≡ false → (r : Report) × (o ≡ Refused r)
 refused-is (Refused r) e = (r, refl)
 refused-is Ready e = both-no refl e
 refused-is Quiet e = both-no refl e

@@ -14,7 +14,7 @@ use Rattle.octets.specs.declared.Address.{Address}
 use Rattle.octets.specs.declared.Endpoint.{Endpoint}
 use Rattle.octets.specs.declared.Setting.{Setting}
 use Rattle.octets.specs.Addresses.{sameAddress, belowAddress, groupOf}
-use Rattle.refusal.specs.Numbers.{Told, numberIn}
+use Rattle.refusal.specs.Numbers.{Report, numberIn}
 use Rattle.responder.specs.declared.NameState.{NameState}
 use Rattle.responder.specs.declared.NameState.the-variants.{Off, Verifying, Defending}
 use Rattle.responder.specs.declared.NameState.the-variants.{Unique as IsUnique, Stopped as HasStopped}
@@ -64,7 +64,7 @@ pub record Replied (Reads : List ℕ → Type 0) (from : Endpoint) (h : Host) (d
 -- refused, with a number; the state is h as before
 pub record RefusedWith (n : ℕ) (h : Host) (d : Done) : Type 0 where
   pub host : d .host ≡ h
-  pub why : Told
+  pub why : Report
   pub outcome : d .result ≡ Refused why
   pub is : numberIn why ≡ n
 
@@ -142,7 +142,7 @@ pub record Meets (ReplyTo : ℕ → List ℕ → Bool → List ℕ → Type 0) (
   pub set-up-interval : 0 < L .interval
   pub set-up-off : setUp (s .table) (s .settings) (s .time) (s .id) .host ≡ hostWith s Off (s .time)
   -- start: a refusal leaves the state; an interface that is not used; the name while it is Off
-  pub start-refused : (x : NameState) (clock i k t : ℕ) (v : Lent) (r : Told) → clock ≤ t → t ≤ top
+  pub start-refused : (x : NameState) (clock i k t : ℕ) (v : Lent) (r : Report) → clock ≤ t → t ≤ top
       → starting L s x clock i k t v .result ≡ Refused r → starting L s x clock i k t v .host ≡ hostWith s x clock
   pub start-unused : (x : NameState) (clock i k t : ℕ) (v : Lent) → clock ≤ t → t ≤ top → i ≢ s .interface
       → RefusedWith 3 (hostWith s x clock) (starting L s x clock i k t v)

@@ -36,7 +36,7 @@ use Rattle.responder.specs.State.{settingsOf, stateOf, off, verifying, unique, 
 use Rattle.responder.specs.State.{settingOf as settingIn}
 use Rattle.responder.specs.Outcomes.{kept as Kept, stopped as StoppedName}
 use Rattle.responder.specs.Start.{nameIn, checkQuery}
-use Rattle.responder.specs.Receive.{Arrival, header, questionOr, isBad, question, asked, askedName, badLength, badAddress, badCounts, badClass, found, isFound, numberOr, nameNumber, state, fromUs, notOurs, awaits, unmatched, queryChecks, responseChecks, receiveChecks, Decision, answer, defend, keep, loses, decision, effect, receiveIf, receive}
+use Rattle.responder.specs.Receive.{Arrival, header, questionOr, isBadQuestion, question, asked, askedName, badLength, badAddress, badCounts, badClass, found, isFound, numberOr, nameNumber, state, fromUs, notOurs, awaits, unmatched, queryChecks, responseChecks, receiveChecks, Decision, answer, defend, keep, loses, decision, effect, receiveIf, receive}
 use Rattle.responder.specs.Receive.{stop as stops}
 use Rattle.uniqueness.specs.Link.{Station, settingOf, Link, Receipt, SameName, OnLink, Conditions}
 use Rattle.uniqueness.proofs.Obligations.{top, hostWith, Replied, RefusedWith, Taken, Waits, address, own, source, arrival, asking, responded}
@@ -151,7 +151,7 @@ module _ (L : Link) (c : Conditions L) (s : Station) (o : OnLink L s) where
         (next (ap (λ (z : Header). not (eqb (z .opcode) 0)) (rd .header) ∙ q7)
         (next (ap (λ (z : Header). cond (z .response) (not (eqb (z .rcode) 0)) false) (rd .header) ∙ q8)
         (next (ap badCounts (rd .header) ∙ q9)
-        (next (ap isBad (rd .question))
+        (next (ap isBadQuestion (rd .question))
         (next class-good
         (subst (λ (z : Header). Gives (cond (z .response) (responseChecks host here) (queryChecks host here)) u) (sym (rd .header)) r))))))))
 

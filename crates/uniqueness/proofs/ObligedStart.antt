@@ -9,7 +9,7 @@ use lib.ListN.{length}
 use lib.Dec.{leb}
 use borrow.Author.Tests.{lt-leb}
 use Rattle.octets.specs.declared.Setting.{Setting}
-use Rattle.refusal.specs.Numbers.{Told, number}
+use Rattle.refusal.specs.Numbers.{Report, number}
 use Rattle.refusal.specs.Checks.{Verdict, refused, passed, verdict, Gives, next, done}
 use Rattle.refusal.proofs.Checks.{gives}
 use Rattle.name_table.specs.declared.Kind.{Kind}
@@ -50,7 +50,7 @@ module _ (L : Link) (c : Conditions L) (s : Station) (o : OnLink L s) where
   unfolding start
   start-by x clock i k t v w g = ap (λ (u : Verdict). startIf u (hostWith s x clock) (s .table) i k t (v .id) (v .out)) (gives g)
 
-  pub start-refused : (x : NameState) (clock i k t : ℕ) (v : Lent) (r : Told) → clock ≤ t → t ≤ top
+  pub start-refused : (x : NameState) (clock i k t : ℕ) (v : Lent) (r : Report) → clock ≤ t → t ≤ top
       → starting L s x clock i k t v .result ≡ Refused r → starting L s x clock i k t v .host ≡ hostWith s x clock
   unfolding start
   start-refused x clock i k t v r f g e = go (verdict (startChecks (hostWith s x clock) (s .table) i k t (v .out))) e

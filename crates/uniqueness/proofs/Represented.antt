@@ -13,14 +13,14 @@ use Rattle.responder.specs.declared.NameState.{NameState}
 use Rattle.responder.specs.declared.NameState.the-variants.{Off}
 use Rattle.responder.specs.declared.Name.{Name}
 use Rattle.responder.specs.declared.Interface.{Interface}
-use Rattle.responder.specs.State.{offName, noInterface, interfaceOf, settingsOf, stateOf, withClock, withState}
+use Rattle.responder.specs.State.{offName, absent, interfaceOf, settingsOf, stateOf, withClock, withState}
 use Rattle.responder.specs.State.{settingOf as settingIn}
 use Rattle.responder.specs.SetUp.{four, freshHost}
 use Rattle.uniqueness.specs.Link.{Station, settingOf}
 use Rattle.uniqueness.proofs.Obligations.{unstarted, inUse, hostWith}
 
 -- the settings of interfaces with all names Off
-setting-there : (l : List Setting) (i : ℕ) → getD (map unstarted l) i noInterface .setting ≡ getD l i unused
+setting-there : (l : List Setting) (i : ℕ) → getD (map unstarted l) i absent .setting ≡ getD l i unused
 setting-there [] i = refl
 setting-there (x ∷ l) zero = refl
 setting-there (x ∷ l) (suc i) = setting-there l i
@@ -41,7 +41,7 @@ module _ (s : Station) (all : length (s .settings) ≡ 4) (used : s .interface <
   -- its used interface, and the settings of all
   pub interface-at : (x : NameState) (t : ℕ) → interfaceOf (hostWith s x t) (s .interface) ≡ inUse s x
   unfolding hostWith
-  interface-at x t = getD-set-same (map unstarted (s .settings)) (s .interface) (inUse s x) noInterface inside
+  interface-at x t = getD-set-same (map unstarted (s .settings)) (s .interface) (inUse s x) absent inside
 
   pub setting-at : (x : NameState) (t : ℕ) → settingIn (hostWith s x t) (s .interface) ≡ settingOf s (s .interface)
   setting-at x t = ap (λ (i : Interface). i .setting) (interface-at x t)
@@ -49,11 +49,11 @@ module _ (s : Station) (all : length (s .settings) ≡ 4) (used : s .interface <
   pub other-at : (x : NameState) (t i : ℕ) → i ≢ s .interface → settingIn (hostWith s x t) i ≡ settingOf s i
   unfolding hostWith
   other-at x t i ne =
-      ap (λ (j : Interface). j .setting) (getD-set-other (map unstarted (s .settings)) (s .interface) i (inUse s x) noInterface ne)
+      ap (λ (j : Interface). j .setting) (getD-set-other (map unstarted (s .settings)) (s .interface) i (inUse s x) absent ne)
       ∙ setting-there (s .settings) i
 
   pub among-settings : (x : NameState) (t i : ℕ) → getD (settingsOf (hostWith s x t .interfaces)) i unused ≡ settingIn (hostWith s x t) i
-  among-settings x t i = List·getD-map (λ (j : Interface). j .setting) (hostWith s x t .interfaces) i noInterface
+  among-settings x t i = List·getD-map (λ (j : Interface). j .setting) (hostWith s x t .interfaces) i absent
 
   -- the name on it, and every other name
   pub name-at : (x : NameState) → getD (inUse s x .names) (s .name) offName ≡ record { state = x }
