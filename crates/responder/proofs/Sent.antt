@@ -2,7 +2,7 @@
 use Prim.Native.Nat.{ℕ, zero, suc, _+_, _-_, _<_, _≤_}
 use mathlib.Core.Path.{_≡_, refl, sym, ap, _∙_, subst}
 use mathlib.Core.List.{List, [], _∷_, _++_, append-assoc, append-nil}
-use mathlib.Core.Bool.{Bool, true, false, cond, not}
+use mathlib.Core.Bool.{not}
 use native.Mathlib.Omega.{arith}
 use lib.ListN.{length, getD, take, drop, length-append, length-drop}
 use lib.Seq.{take-at, take-append-seam}
@@ -11,20 +11,18 @@ use Rattle.octets.specs.Words.{bigOctets}
 use Rattle.octets.proofs.Octets.{part-in, length-part}
 use Rattle.octets.proofs.Splice.{put-in, splice-start}
 use Rattle.names.specs.Names.{Labels, IsName, encode}
-use Rattle.names.proofs.NameWalk.{name-fits}
 use Rattle.name_table.specs.Check.{Held, good, checkTable}
 use Rattle.name_table.specs.Entries.{Entry, name, resource, dataOctets, names, located}
 use Rattle.name_table.proofs.Entries.{AreNames, located-length}
 use Rattle.name_table.proofs.Meaning.{all-names, good-iff}
 use Rattle.message.specs.declared.QuestionRead.the-variants.{Good}
-use Rattle.message.specs.declared.Question.{Question}
 use Rattle.message.specs.Query.{queryOctets, countOctets}
 use Rattle.message.specs.Question.{questionAt, questionOctets, IsQuestion}
 use Rattle.message.specs.Header.{headerAt}
 use Rattle.message.specs.Reply.{replyOctets, replyFlags, answersOctets, takenOf, replyTo, replyWritten}
 use Rattle.message.proofs.Questions.{question-length, reads-a-question, question-moves}
 use Rattle.message.proofs.Query.{query-length, query-question, query-header, query-asks, query-copies}
-use Rattle.message.proofs.ReplyLaws.{has-room, written-is, reads-header, reply-has-header, reply-within, question-stands}
+use Rattle.message.proofs.ReplyLaws.{has-room, written-is, reads-header, reply-has-header, reply-within}
 use Rattle.responder.specs.Bounds.{room}
 use Rattle.responder.specs.Start.{noName, nameIn, isIdle, checkQuery}
 use Rattle.responder.specs.Early.{namesIn}
@@ -48,7 +46,7 @@ use Rattle.responder.specs.declared.NameState.the-variants.{Off, Verifyi
 use Rattle.responder.specs.declared.Host.{Host}
 use Rattle.responder.proofs.ThreeQueries.{start-sends}
 use Rattle.responder.proofs.ExactlyWhen.{called-is, Receives, Ticks, refuses, accepts, receive-is, replies-only, defends-only, answers-if, defends-if, query-is, tick-is, first-is}
-use Rattle.responder.specs.Sent.{queryHeader, ReadAsCheck, ReadAsDefence, ReadAsReply}
+use Rattle.responder.specs.Sent.{ReadAsCheck, ReadAsDefence, ReadAsReply}
 
 -- the k-th name of a good table is a name
 name-in : (o : ℕ) (es : List Entry) (k : ℕ) → AreNames (names es) → k < length (names es)

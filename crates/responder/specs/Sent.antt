@@ -2,13 +2,12 @@
 use Prim.Native.Nat.{ℕ, _+_, _≤_}
 use mathlib.Core.Path.{_≡_}
 use mathlib.Core.List.{List}
-use mathlib.Core.Bool.{Bool, true, false}
+use mathlib.Core.Bool.{Bool, false}
 use lib.ListN.{length}
 use Rattle.octets.specs.Octets.{partOf}
 use Rattle.message.specs.Bounds.{headerOctets, classIN, typeANY}
 use Rattle.message.specs.declared.Header.{Header}
 use Rattle.message.specs.declared.HeaderRead.the-variants.{Good as GoodHeader}
-use Rattle.message.specs.declared.Question.{Question}
 use Rattle.message.specs.declared.QuestionRead.the-variants.{Good}
 use Rattle.message.specs.Header.{headerAt}
 use Rattle.message.specs.Question.{questionAt}
