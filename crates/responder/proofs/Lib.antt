@@ -1,4 +1,8 @@
 pub mod SetUp
+pub mod FirstChecks
+pub mod Names
+pub mod Tick
+pub mod Start
 pub mod Tests
 pub mod Laws
 pub mod ExactlyWhen
