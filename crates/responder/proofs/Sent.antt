@@ -5,11 +5,10 @@ use mathlib.Core.List.{List, [], _∷_, _++_, append-assoc, append-nil}
 use mathlib.Core.Bool.{not}
 use native.Mathlib.Omega.{arith}
 use lib.ListN.{length, getD, take, drop, length-append, length-drop}
-use lib.Seq.{take-at, take-append-seam}
+use lib.Seq.{take-at}
 use Rattle.octets.specs.Octets.{Octets, partOf, put}
 use Rattle.octets.specs.Words.{bigOctets}
 use Rattle.octets.proofs.Octets.{part-in, length-part}
-use Rattle.octets.proofs.Splice.{put-in, splice-start}
 use Rattle.names.specs.Names.{Labels, IsName, encode}
 use Rattle.name_table.specs.Check.{Held, good, checkTable}
 use Rattle.name_table.specs.Entries.{Entry, name, resource, dataOctets, names, located}
@@ -44,7 +43,7 @@ use Rattle.responder.specs.ExactlyWhen.{CalledWell, QueryArrives}
 use Rattle.responder.specs.declared.NameState.{NameState}
 use Rattle.responder.specs.declared.NameState.the-variants.{Off, Verifying, Unique, Defending, Stopped, Shared}
 use Rattle.responder.specs.declared.Host.{Host}
-use Rattle.responder.proofs.ThreeQueries.{start-sends}
+use Rattle.responder.proofs.ThreeQueries.{front, start-sends}
 use Rattle.responder.proofs.ExactlyWhen.{called-is, Receives, Ticks, refuses, accepts, receive-is, replies-only, defends-only, answers-if, defends-if, query-is, tick-is, first-is}
 use Rattle.responder.specs.Sent.{ReadAsCheck, ReadAsDefence, ReadAsReply}
 
@@ -64,12 +63,8 @@ held-name table hs k o e h =
     let n = name-in 0 (t .0 .entries) k (all-names [] (t .0 .entries) tt (t .0 .keep)) l in
     (n .0, n .1, ap (λ (x : List Held). getD x k noName .octets) (ap namesIn e ∙ t .1) ∙ n .2)
 
--- what stands at the front of a buffer
-front : (out xs : List ℕ) → length xs ≤ length out → take (length xs) (put out 0 xs) ≡ xs
-front out xs h = rw (put-in out 0 xs (omega arith), splice-start out xs, take-append-seam xs (drop (length xs) out))
-
 -- a part behind the header
-behind : (b xs r : List ℕ) (e : ℕ) → drop 12 b ≡ xs ++ r → 12 ≤ length b → e ≡ 12 + length xs → partOf b 12 e ≡ xs
+pub behind : (b xs r : List ℕ) (e : ℕ) → drop 12 b ≡ xs ++ r → 12 ≤ length b → e ≡ 12 + length xs → partOf b 12 e ≡ xs
 behind b xs r e d l q =
     let n : length b - 12 ≡ length xs + length r = sym (length-drop 12 b) ∙ ap length d ∙ length-append xs r in
     let m : length xs ≡ e - 12 = omega arith in

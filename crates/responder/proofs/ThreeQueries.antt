@@ -56,7 +56,7 @@ unfolding queryOctets
 query-fits id x h = simp length-append (omega arith)
 
 -- what stands at the front of a buffer
-front : (out xs : List ℕ) → length xs ≤ length out → take (length xs) (put out 0 xs) ≡ xs
+pub front : (out xs : List ℕ) → length xs ≤ length out → take (length xs) (put out 0 xs) ≡ xs
 front out xs h = rw (put-in out 0 xs (omega arith), splice-start out xs, take-append-seam xs (drop (length xs) out))
 
 -- ---- the start

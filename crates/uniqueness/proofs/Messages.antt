@@ -4,12 +4,10 @@ use mathlib.Core.Path.{_≡_, refl, sym, _∙_, ap, subst}
 use mathlib.Core.Bool.{Bool, true, false, cond}
 use mathlib.Core.List.{List, [], _++_, append-nil, append-assoc}
 use native.Mathlib.Omega.{arith}
-use lib.ListN.{getD, length, take, drop, length-append, length-drop}
-use lib.Seq.{take-at}
+use lib.ListN.{getD, length, drop}
 use Rattle.responder.specs.Bounds.{room as roomOctets}
 use Rattle.octets.specs.Octets.{partOf}
 use Rattle.octets.specs.Words.{bigOctets}
-use Rattle.octets.proofs.Octets.{part-in}
 use Rattle.names.specs.Names.{encode}
 use Rattle.name_table.specs.Entries.{Answer}
 use Rattle.message.specs.declared.Header.{Header}
@@ -26,6 +24,8 @@ use Rattle.message.proofs.Questions.{question-length, question-back}
 use Rattle.message.proofs.Query.{query-length, query-question, query-header, query-asks}
 use Rattle.message.proofs.ReplyLaws.{reads-header, reply-has-header, reply-within}
 use Rattle.responder.specs.Start.{checkQuery}
+use Rattle.responder.specs.Sent.{queryHeader}
+use Rattle.responder.proofs.Sent.{behind}
 use Rattle.uniqueness.specs.Link.{SameName}
 
 -- a question for the name y, of any type, behind the header
@@ -40,23 +40,6 @@ pub record Reading (b y : List ℕ) (x : Header) : Type 0 where
   pub name : partOf b 12 (12 + length y) ≡ y
   pub octets : partOf b 12 (12 + length y + 4) ≡ questionOctets y 255 1
 
--- the header of a start's query
-abbrev pub queryHeader : ℕ → Header
-queryHeader id =
-    record {
-      id = id;
-      response = false;
-      opcode = 0;
-      conflict = false;
-      truncated = false;
-      tentative = false;
-      rcode = 0;
-      questions = 1;
-      answers = 0;
-      authorities = 0;
-      additionals = 0;
-    }
-
 -- b is a reply to a start's query with this ID for the name y, with T set or clear
 abbrev pub replyHead : ℕ → Bool → ReplyHead
 replyHead id t = record { id = id; conflict = false; tentative = t }
@@ -64,14 +47,6 @@ replyHead id t = record { id = id; conflict = false; tentative = t }
 pub record ReplyTo (id : ℕ) (y : List ℕ) (t : Bool) (b : List ℕ) : Type 0 where
   pub answers : List Answer
   pub is : b ≡ replyTo roomOctets (replyHead id t) (questionOctets y 255 1) 255 answers
-
--- ---- parts
-
-front : (b xs r : List ℕ) (e : ℕ) → drop 12 b ≡ xs ++ r → 12 ≤ length b → e ≡ 12 + length xs → partOf b 12 e ≡ xs
-front b xs r e d l q =
-    let n : length b - 12 ≡ length xs + length r = sym (length-drop 12 b) ∙ ap length d ∙ length-append xs r in
-    let m : length xs ≡ e - 12 = omega arith in
-    part-in b 12 e (omega arith) (omega arith) ∙ ap (take (e - 12)) d ∙ take-at xs r (e - 12) m
 
 good-header : (b : List ℕ) (x : Header) → 12 ≤ length b → headerAt b ≡ GoodHeader x → headerOf b ≡ x
 good-header b x l e = cc (header-good b l)
@@ -85,8 +60,8 @@ reading b y r x l m h q d =
       longest = m;
       header = good-header b x l h;
       question = q;
-      name = front b y (bigOctets 255 ++ (bigOctets 1 ++ r)) (12 + length y) (d ∙ e) l refl;
-      octets = front b (questionOctets y 255 1) r (12 + length y + 4) d l (omega (arith, question-length y 255 1));
+      name = behind b y (bigOctets 255 ++ (bigOctets 1 ++ r)) (12 + length y) (d ∙ e) l refl;
+      octets = behind b (questionOctets y 255 1) r (12 + length y + 4) d l (omega (arith, question-length y 255 1));
     }
 
 module _ (y z : List ℕ) (w : SameName y z) where

@@ -44,7 +44,8 @@ use Rattle.uniqueness.proofs.Obligations.{verifying as verifyingWith}
 use Rattle.uniqueness.proofs.Represented.{other-at, among-settings, state-at, write-at, clock-at}
 use Rattle.uniqueness.proofs.Stations.{held, few-is, finds-it, is-family, not-group}
 use Rattle.uniqueness.proofs.EarlyLaws.{names-are, setting-is, early-passes}
-use Rattle.uniqueness.proofs.Messages.{asks, Reading, queryHeader, replyHead, ReplyTo, question-short, reads-query, reads-reply}
+use Rattle.responder.specs.Sent.{queryHeader}
+use Rattle.uniqueness.proofs.Messages.{asks, Reading, replyHead, ReplyTo, question-short, reads-query, reads-reply}
 
 -- the group address of a family
 group-family : (f : ℕ) → groupOf f .family ≡ f
