@@ -11,7 +11,7 @@ use Rattle.name_table.specs.Records.{recordBy, recordAt, recordsFrom}
 use Rattle.message.specs.Header.{headerOf}
 use Rattle.message.specs.Question.{questionAt}
 use Rattle.message.specs.Reply.{takenFrom, replyOctets, replyWritten}
-use Rattle.responder.specs.Receive.{receive}
+use Rattle.host.specs.Receive.{receive}
 use Rattle.examples.specs.Cases.{AllHold, cases}
 
 pub all-hold : AllHold cases

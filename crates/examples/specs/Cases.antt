@@ -7,13 +7,13 @@ use Rattle.octets.specs.declared.Endpoint.{Endpoint}
 use Rattle.octets.specs.Addresses.{groupOf}
 use Rattle.refusal.specs.Numbers.{number}
 use Rattle.name_table.specs.Check.{Checked, good, bad, checkTable}
-use Rattle.responder.specs.declared.NameState.{NameState}
-use Rattle.responder.specs.declared.NameState.the-variants.{Verifying, Unique}
-use Rattle.responder.specs.declared.Host.{Host}
-use Rattle.responder.specs.State.{offName, withClock}
-use Rattle.responder.specs.SetUp.{freshInterface, zeroSetting}
-use Rattle.responder.specs.Outcomes.{Done, refused, reply, nowhere}
-use Rattle.responder.specs.Receive.{Arrival, receive}
+use Rattle.host.specs.declared.NameState.{NameState}
+use Rattle.host.specs.declared.NameState.the-variants.{Verifying, Unique}
+use Rattle.host.specs.declared.Host.{Host}
+use Rattle.host.specs.State.{offName, withClock}
+use Rattle.host.specs.SetUp.{freshInterface, zeroSetting}
+use Rattle.host.specs.Outcomes.{Done, refused, reply, nowhere}
+use Rattle.host.specs.Receive.{Arrival, receive}
 
 pub data Case : Type 0 where
   -- the check of a table

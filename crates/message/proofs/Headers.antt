@@ -1,16 +1,17 @@
 -- What the reader of a header means.
-use Prim.Native.Nat.{ℕ, _+_, _*_, _/_, _<_, _≤_}
-use mathlib.Core.Path.{_≡_, refl, sym, _∙_}
+use Prim.Native.Nat.{ℕ, _+_, _*_, _/_, _%_, _<_, _≤_}
+use mathlib.Core.Path.{_≡_, refl, sym, ap, _∙_}
 use mathlib.Core.List.{List}
-use mathlib.Core.Bool.{Bool, true, false}
+use mathlib.Core.Bool.{Bool, true, false, cond}
 use mathlib.Core.Logic.{_↔_}
 use native.Mathlib.Omega.{arith}
 use lib.Dec.{ltb, eqb}
-use lib.ListN.{length}
+use lib.ListN.{length, getD}
 use borrow.Author.Tests.{lt-ltb, le-ltb, ltb-true, ltb-false, eqb-true, eqb-false}
 use Rattle.octets.specs.Octets.{Octets}
 use Rattle.octets.specs.Words.{bigAt}
 use Rattle.octets.proofs.Tests.{split}
+use Rattle.octets.proofs.Octets.{octet-at}
 use Rattle.octets.proofs.Words.{big-word}
 use Rattle.message.specs.Bounds.{headerOctets}
 use Rattle.message.specs.declared.Header.{Header}
@@ -25,6 +26,13 @@ header-short s h = rw (lt-ltb _ _ h)
 pub header-good : (s : List ℕ) → headerOctets ≤ length s → headerAt s ≡ Good (headerOf s)
 unfolding headerAt
 header-good s h = rw (le-ltb _ _ h)
+
+pub header-is : (s : List ℕ) (x : Header) → headerAt s ≡ Good x → headerOf s ≡ x
+header-is s x e =
+    split
+    (ltb (length s) headerOctets)
+    (λ t. let z : _≡_ {A = ℕ} 0 1 = cc (header-short s (ltb-true _ _ t)) in absurd (omega arith))
+    (λ t. cc (header-good s (ltb-false _ _ t)))
 
 -- The header is short exactly if there are fewer than 12 octets.
 pub short-header : (s : List ℕ) → (headerAt s ≡ Short) ↔ (length s < 12)
@@ -46,6 +54,14 @@ bit-back x h =
 
 bit-set : (word place : ℕ) → bit (isSet word place) ≡ bits word place 2
 bit-set word place = bit-back (bits word place 2) (omega arith)
+
+-- T is the lowest bit of the third octet.
+pub tentative-bit : (b : List ℕ) (x : Header) → Octets b → headerAt b ≡ Good x → getD b 2 0 % 2 ≡ cond (x .tentative) 1 0
+unfolding headerOf
+tentative-bit b x o e =
+    let h = octet-at b 3 o in
+    let p : getD b 2 0 % 2 ≡ bits (bigAt b 2) 0x100 2 = omega arith in
+    p ∙ sym (bit-set (bigAt b 2) 0x100) ∙ ap (λ (y : Header). bit (y .tentative)) (header-is b x e)
 
 -- a word, field by field from the top
 fields-sum : (w q1 q2 q3 q4 q5 response opcode conflict truncated tentative reserved rcode : ℕ)

@@ -4,3 +4,4 @@ pub mod Records
 pub mod Query
 pub mod Reply
 pub mod ReplyLaws
+pub mod ReplyAnswers

@@ -1,11 +1,13 @@
 -- Queries: what is written is read back.
 use Prim.Native.Nat.{ℕ, _+_, _*_, _/_, _%_, _<_, _≤_}
 use mathlib.Core.Path.{_≡_, refl, sym, _∙_}
-use mathlib.Core.List.{List, [], _++_}
+use mathlib.Core.List.{List, [], _∷_, _++_}
 use native.Mathlib.Omega.{arith}
 use lib.ListN.{length, drop, length-append}
 use Rattle.octets.specs.Octets.{Octets, partOf, splice, put}
 use Rattle.octets.specs.Words.{bigOctets}
+use Rattle.octets.proofs.Octets.{octets-append}
+use Rattle.octets.proofs.Words.{big-octets}
 use Rattle.octets.proofs.Splice.{put-in, put-out, put-after}
 use Rattle.names.specs.Names.{Labels, encode, IsName}
 use Rattle.message.specs.Bounds.{headerOctets}
@@ -19,12 +21,25 @@ use Rattle.message.proofs.Headers.{header-good}
 use Rattle.message.proofs.Questions.{question-length, question-back, question-moves}
 
 -- A query has 12 octets more than its question.
-pub query-length : (id flags : ℕ) (question : List ℕ) → length (queryOctets id flags question) ≡ 12 + length question
+pub query-length : (id flags : ℕ) (question : List ℕ) → length (queryOctets id flags question) ≡ headerOctets + length question
 unfolding queryOctets
 query-length id flags question = omega arith
 
+-- The octets of a header with one question and so many answers are octets,
+pub header-octets : (id : ℕ) (flags : List ℕ) (answers : ℕ) → id < 65536 → Octets flags → answers < 65536
+    → Octets (bigOctets id ++ flags ++ countOctets answers)
+header-octets id flags answers h o k =
+    octets-append (bigOctets id ++ flags) (countOctets answers) (octets-append (bigOctets id) flags (big-octets id h) o)
+    (omega arith, (omega arith, octets-append (bigOctets answers) (0 ∷ 0 ∷ 0 ∷ 0 ∷ []) (big-octets answers k) (omega arith, (omega arith, (omega arith, (omega arith, tt))))))
+
+-- and so are those of a query.
+pub query-octets : (id flags : ℕ) (question : List ℕ) → id < 65536 → flags < 65536 → Octets question → Octets (queryOctets id flags question)
+unfolding queryOctets
+query-octets id flags question h k o =
+    octets-append (bigOctets id ++ bigOctets flags ++ countOctets 0) question (header-octets id (bigOctets flags) 0 h (big-octets flags k) (omega arith)) o
+
 -- The question's octets stand in it from 12 on.
-pub query-question : (id flags : ℕ) (question : List ℕ) → drop 12 (queryOctets id flags question) ≡ question
+pub query-question : (id flags : ℕ) (question : List ℕ) → drop headerOctets (queryOctets id flags question) ≡ question
 unfolding queryOctets
 query-question id flags question = refl
 
@@ -53,15 +68,15 @@ query-header id flags question r =
 
 -- The question of a query is read back, whatever stands after it: the one that was given by name, type and class,
 pub query-asks : (id flags : ℕ) (n : Labels) (qtype class : ℕ) (r : List ℕ) → IsName n
-    → questionAt (queryOctets id flags (questionOctets (encode n) qtype class) ++ r) 12
-    ≡ GoodQuestion (record { name = length (encode n); qtype = qtype; class = class; end = 12 + length (encode n) + 4 })
+    → questionAt (queryOctets id flags (questionOctets (encode n) qtype class) ++ r) headerOctets
+    ≡ GoodQuestion (record { name = length (encode n); qtype = qtype; class = class; end = headerOctets + length (encode n) + 4 })
 unfolding queryOctets
 query-asks id flags n qtype class r h = question-back (queryOctets id flags []) n qtype class r h
 
 -- or the one whose octets were copied from another message.
 pub query-copies : (id flags : ℕ) (s : List ℕ) (at : ℕ) (q : Question) (r : List ℕ) → Octets s → IsQuestion s at q
-    → questionAt (queryOctets id flags (partOf s at (q .end)) ++ r) 12
-    ≡ GoodQuestion (record { name = q .name; qtype = q .qtype; class = q .class; end = 12 + q .name + 4 })
+    → questionAt (queryOctets id flags (partOf s at (q .end)) ++ r) headerOctets
+    ≡ GoodQuestion (record { name = q .name; qtype = q .qtype; class = q .class; end = headerOctets + q .name + 4 })
 unfolding queryOctets
 query-copies id flags s at q r o f = question-moves s at q o f (queryOctets id flags []) r
 
@@ -78,29 +93,29 @@ header-written id flags out a b d h e f g =
     g ∙ put-after out (bigOctets id ++ bigOctets flags) (countOctets 0) b 0 4 refl y (omega arith)
 
 -- the question's octets after it
-after-header : (id flags : ℕ) (out a question : List ℕ) → 12 + length question ≤ length out
-    → a ≡ splice out 0 (queryOctets id flags []) → put a 12 question ≡ splice out 0 (queryOctets id flags question)
+after-header : (id flags : ℕ) (out a question : List ℕ) → headerOctets + length question ≤ length out
+    → a ≡ splice out 0 (queryOctets id flags []) → put a headerOctets question ≡ splice out 0 (queryOctets id flags question)
 unfolding queryOctets
-after-header id flags out a question h e = put-after out (queryOctets id flags []) question a 0 12 refl e h
+after-header id flags out a question h e = put-after out (queryOctets id flags []) question a 0 headerOctets refl e h
 
-query-put : (id flags : ℕ) (out question : List ℕ) → 12 + length question ≤ length out
+query-put : (id flags : ℕ) (out question : List ℕ) → headerOctets + length question ≤ length out
     → splice out 0 (queryOctets id flags question) ≡ put out 0 (queryOctets id flags question)
 query-put id flags out question h =
     sym (put-in out 0 (queryOctets id flags question) (omega (arith, query-length id flags question)))
 
 -- a query that does not fit, and one that does
-pub query-out : (id flags : ℕ) (out question : List ℕ) → length out < 12 + length question
+pub query-out : (id flags : ℕ) (out question : List ℕ) → length out < headerOctets + length question
     → out ≡ put out 0 (queryOctets id flags question)
 query-out id flags out question h =
     sym (put-out out 0 (queryOctets id flags question) (omega (arith, query-length id flags question)))
 
-pub query-written : (id flags : ℕ) (out a b question : List ℕ) → 12 + length question ≤ length out
-    → a ≡ splice out 0 (queryOctets id flags []) → b ≡ put a 12 question → b ≡ put out 0 (queryOctets id flags question)
+pub query-written : (id flags : ℕ) (out a b question : List ℕ) → headerOctets + length question ≤ length out
+    → a ≡ splice out 0 (queryOctets id flags []) → b ≡ put a headerOctets question → b ≡ put out 0 (queryOctets id flags question)
 query-written id flags out a b question h e f =
     f ∙ after-header id flags out a question h e ∙ query-put id flags out question h
 
-pub name-query-written : (id flags : ℕ) (out a b d g name : List ℕ) (qtype class p : ℕ) → p ≡ 12 + length name → p + 4 ≤ length out
-    → a ≡ splice out 0 (queryOctets id flags []) → b ≡ put a 12 name → d ≡ put b p (bigOctets qtype)
+pub name-query-written : (id flags : ℕ) (out a b d g name : List ℕ) (qtype class p : ℕ) → p ≡ headerOctets + length name → p + 4 ≤ length out
+    → a ≡ splice out 0 (queryOctets id flags []) → b ≡ put a headerOctets name → d ≡ put b p (bigOctets qtype)
     → g ≡ put d (p + 2) (bigOctets class) → g ≡ put out 0 (queryOctets id flags (questionOctets name qtype class))
 unfolding queryOctets
 name-query-written id flags out a b d g name qtype class p l h e f i j =

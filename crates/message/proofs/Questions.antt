@@ -2,7 +2,7 @@
 use Prim.Native.Nat.{ℕ, _+_, _-_, _<_, _≤_}
 use mathlib.Core.Path.{_≡_, refl, sym, ap, _∙_, subst}
 use mathlib.Core.List.{List, _++_, append-assoc}
-use mathlib.Core.Logic.{_↔_}
+use mathlib.Core.Logic.{_↔_, _⊎_, inl, inr}
 use native.Mathlib.Omega.{arith}
 use lib.Dec.{ltb}
 use lib.ListN.{length, take, drop, length-append, take-append-drop}
@@ -11,8 +11,9 @@ use borrow.Author.Tests.{lt-ltb, le-ltb, ltb-true, ltb-false}
 use Rattle.octets.specs.Octets.{Octets, partOf}
 use Rattle.octets.specs.Words.{bigAt, bigOctets}
 use Rattle.octets.proofs.Tests.{split}
-use Rattle.octets.proofs.Octets.{part-in}
-use Rattle.octets.proofs.Words.{big-there}
+use Rattle.octets.proofs.Octets.{octets-append, part-in}
+use Rattle.octets.proofs.Readers.{finds-none}
+use Rattle.octets.proofs.Words.{big-octets, big-there}
 use Rattle.names.specs.declared.Name.{Name}
 use Rattle.names.specs.declared.NameRead.{NameRead}
 use Rattle.names.specs.declared.NameRead.the-variants.{Good as GoodName, Bad as BadName}
@@ -76,14 +77,11 @@ reads-a-question s at q o = (found s at q o, read s at q o)
 
 -- It answers "bad" exactly if none does.
 pub reads-no-question : (s : List ℕ) (at : ℕ) → Octets s → (questionAt s at ≡ Bad) ↔ ((q : Question) → IsQuestion s at q → ⊥)
-reads-no-question s at o = (
-  λ e q f. let z : _≡_ {A = ℕ} 0 1 = cc (read s at q o f) in omega arith,
-  λ h. go (questionAt s at) refl h,
-)
+reads-no-question s at o = finds-none (λ q. reads-a-question s at q o) (λ q e. let z : _≡_ {A = ℕ} 0 1 = cc in omega arith) (either (questionAt s at))
   where
-    go : (r : QuestionRead) → questionAt s at ≡ r → ((q : Question) → IsQuestion s at q → ⊥) → questionAt s at ≡ Bad
-    go (Good q) e h = absurd (h q (found s at q o e))
-    go Bad e h = e
+    either : (r : QuestionRead) → ((q : Question) × (r ≡ Good q)) ⊎ (r ≡ Bad)
+    either (Good q) = inl (q, refl)
+    either Bad = inr refl
 
 -- ---- where its octets stand
 
@@ -91,6 +89,11 @@ reads-no-question s at o = (
 pub question-length : (name : List ℕ) (qtype class : ℕ) → length (questionOctets name qtype class) ≡ length name + 4
 question-length name qtype class =
     omega (arith, length-append (name ++ bigOctets qtype) (bigOctets class), length-append name (bigOctets qtype))
+
+-- and are octets
+pub question-octets : (name : List ℕ) (qtype class : ℕ) → Octets name → qtype < 65536 → class < 65536 → Octets (questionOctets name qtype class)
+question-octets name qtype class o h k =
+    octets-append (name ++ bigOctets qtype) (bigOctets class) (octets-append name (bigOctets qtype) o (big-octets qtype h)) (big-octets class k)
 
 -- a word whose octets stand at p
 pub big-here : (s : List ℕ) (p v : ℕ) (t : List ℕ) → drop p s ≡ bigOctets v ++ t → bigAt s p ≡ v
@@ -124,9 +127,9 @@ word-there s p o h =
     ∙ ap (λ (l : List ℕ). bigOctets (bigAt s p) ++ l) (drop-drop 2 p s)
 
 -- The octets of a question that stands in s are those of its name, its type and its class.
-pub question-octets : (s : List ℕ) (at : ℕ) (q : Question) → Octets s → (f : IsQuestion s at q)
+pub question-part : (s : List ℕ) (at : ℕ) (q : Question) → Octets s → (f : IsQuestion s at q)
     → partOf s at (q .end) ≡ questionOctets (encode (f .name .name)) (q .qtype) (q .class)
-question-octets s at q o f =
+question-part s at q o f =
     let n : List ℕ = encode (f .name .name) in
     let p : ℕ = at + length n in
     let u : List ℕ = drop (p + 2 + 2) s in
@@ -148,5 +151,5 @@ pub question-moves : (s : List ℕ) (at : ℕ) (q : Question) → Octets s → I
     → questionAt (b ++ (partOf s at (q .end) ++ r)) (length b)
     ≡ Good (record { name = q .name; qtype = q .qtype; class = q .class; end = length b + q .name + 4 })
 question-moves s at q o f b r =
-    rw (question-octets s at q o f, f .name .len-is)
+    rw (question-part s at q o f, f .name .len-is)
     (question-back b (f .name .name) (q .qtype) (q .class) r (f .name .is-name))

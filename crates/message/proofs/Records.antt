@@ -2,7 +2,7 @@
 use Prim.Native.Nat.{ℕ, zero, suc, _+_, _-_, _<_, _≤_}
 use mathlib.Core.Path.{_≡_, refl, sym, ap, _∙_, subst}
 use mathlib.Core.List.{List, [], _∷_}
-use mathlib.Core.Logic.{_↔_}
+use mathlib.Core.Logic.{_↔_, _⊎_, inl, inr}
 use native.Mathlib.Omega.{arith}
 use lib.Dec.{ltb}
 use lib.ListN.{length}
@@ -10,6 +10,7 @@ use borrow.Author.Tests.{lt-ltb, le-ltb, ltb-true, ltb-false}
 use Rattle.octets.specs.Octets.{Octets}
 use Rattle.octets.specs.Words.{bigAt}
 use Rattle.octets.proofs.Tests.{split}
+use Rattle.octets.proofs.Readers.{finds-none}
 use Rattle.names.specs.declared.RecordName.{RecordName}
 use Rattle.names.specs.declared.RecordNameRead.{RecordNameRead}
 use Rattle.names.specs.declared.RecordNameRead.the-variants.{Good as GoodName, Bad as BadName}
@@ -100,14 +101,11 @@ reads-a-record s at r o = (found s at r o, read s at r o)
 
 -- It answers "bad" exactly if none does.
 pub reads-no-record : (s : List ℕ) (at : ℕ) → Octets s → (recordAt s at ≡ Bad) ↔ ((r : ResourceRecord) → IsRecord s at r → ⊥)
-reads-no-record s at o = (
-  λ e r f. let z : _≡_ {A = ℕ} 0 1 = cc (read s at r o f) in omega arith,
-  λ h. go (recordAt s at) refl h,
-)
+reads-no-record s at o = finds-none (λ r. reads-a-record s at r o) (λ r e. let z : _≡_ {A = ℕ} 0 1 = cc in omega arith) (either (recordAt s at))
   where
-    go : (m : RecordRead) → recordAt s at ≡ m → ((r : ResourceRecord) → IsRecord s at r → ⊥) → recordAt s at ≡ Bad
-    go (Good r) e h = absurd (h r (found s at r o e))
-    go Bad e h = e
+    either : (m : RecordRead) → ((r : ResourceRecord) × (m ≡ Good r)) ⊎ (m ≡ Bad)
+    either (Good r) = inl (r, refl)
+    either Bad = inr refl
 
 -- ---- the walk, turn by turn
 

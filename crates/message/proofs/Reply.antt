@@ -6,7 +6,7 @@ use mathlib.Core.Bool.{Bool, true, false}
 use native.Mathlib.Omega.{arith}
 use lib.ListN.{length, drop, length-append}
 use lib.Dec.{ltb}
-use borrow.Author.Tests.{lt-ltb, le-ltb, ltb-true, ltb-false}
+use borrow.Author.Tests.{lt-ltb, le-ltb, le-leb, lt-leb, ltb-true, ltb-false}
 use borrow.Rule.Slice.PartMut.{midOf, putMid}
 use Rattle.octets.specs.Octets.{splice, put}
 use Rattle.octets.specs.Words.{bigOctets}
@@ -16,10 +16,10 @@ use Rattle.name_table.specs.Entries.{Answer}
 use Rattle.name_table.specs.Records.{recordAt, recordsOf, answerIn}
 use Rattle.name_table.specs.declared.Record.{Record}
 use Rattle.name_table.specs.declared.RecordRead.the-variants.{Good, End}
-use Rattle.name_table.proofs.Records.{records-turn}
+use Rattle.name_table.proofs.Records.{record-inside, records-turn}
 use Rattle.message.specs.declared.Answers.{Answers}
 use Rattle.message.specs.declared.ReplyHead.{ReplyHead}
-use Rattle.message.specs.Bounds.{classIN, replyTTL}
+use Rattle.message.specs.Bounds.{headerOctets, classIN, replyTTL, beforeData}
 use Rattle.message.specs.Reply.{replyFlags, answerOctets, answersOctets, isAsked, Taken, takenFrom, askedOf, AreTaken, takenOf, replyOctets, answersIn, replyTo, replyWritten, Filled}
 
 -- ---- one answer
@@ -37,14 +37,14 @@ next : {d xs b y : List ℕ} (ys : List ℕ) (at : ℕ) → Starts d xs b → y 
 next {d} {xs} {b} ys at s e a h = record { is = e ∙ put-after d xs ys b 0 at (omega arith) (s .is) h }
 
 -- seven writes, one after another, are an answer
-pub answer-written : (d : List ℕ) (rtype : ℕ) (o : List ℕ) {b1 b2 b3 b4 b5 b6 b7 : List ℕ} → 12 + length o ≤ length d
+pub answer-written : (d : List ℕ) (rtype : ℕ) (o : List ℕ) {b1 b2 b3 b4 b5 b6 b7 : List ℕ} → beforeData + length o ≤ length d
     → b1 ≡ put d 0 (0xC0 ∷ 0x0C ∷ [])
     → b2 ≡ put b1 2 (bigOctets rtype)
     → b3 ≡ put b2 4 (bigOctets classIN)
     → b4 ≡ put b3 6 (bigOctets 0)
     → b5 ≡ put b4 8 (bigOctets replyTTL)
     → b6 ≡ put b5 10 (bigOctets (length o))
-    → b7 ≡ put b6 12 o
+    → b7 ≡ put b6 beforeData o
     → b7 ≡ splice d 0 (answerOctets (record { rtype = rtype; octets = o }))
 answer-written d rtype o h e1 e2 e3 e4 e5 e6 e7 =
     let w1 = first d (0xC0 ∷ 0x0C ∷ []) e1 (omega arith) in
@@ -53,7 +53,7 @@ answer-written d rtype o h e1 e2 e3 e4 e5 e6 e7 =
     let w4 = next (bigOctets 0) 6 w3 e4 refl (omega arith) in
     let w5 = next (bigOctets replyTTL) 8 w4 e5 refl (omega arith) in
     let w6 = next (bigOctets (length o)) 10 w5 e6 refl (omega arith) in
-    next o 12 w6 e7 refl h .is
+    next o beforeData w6 e7 refl h .is
 
 -- ---- which answers are taken: a turn
 
@@ -225,6 +225,10 @@ module _ {before : List ℕ} {limit qtype used : ℕ} {table : List ℕ} {at : �
     turn : takenFrom limit qtype end (answersIn table p) ≡ takenFrom limit qtype end (answerIn table r ∷ answersIn table (r .end))
     turn = ap (takenFrom limit qtype end) (answers-on table p r e)
 
+    -- the walk over the table comes nearer to its end
+    pub filling-nearer : length table - r .end < length table - p
+    filling-nearer = let i = record-inside table p r e in omega (arith, i .0, i .1)
+
     pub filled-cut : isAsked qtype (r .rtype) ≡ true → limit < end + length (answerOctets (answerIn table r))
         → Filled (record { end = end; count = count; cut = true }) used before out (takenFrom limit qtype used (answersIn table at))
     filled-cut k h = filled true (turn ∙ taken-cut limit qtype end (answerIn table r) (answersIn table (r .end)) k h)
@@ -264,48 +268,48 @@ module _ {before : List ℕ} {limit qtype used : ℕ} {table : List ℕ} {at : �
         }
 
     -- the same as the code has it: the answer's data is the part o of the table
-    pub filling-put : (o y : List ℕ) → o ≡ answerIn table r .octets → isAsked qtype (r .rtype) ≡ true → end + (12 + length o) ≤ limit
+    pub filling-put : (o y : List ℕ) → o ≡ answerIn table r .octets → isAsked qtype (r .rtype) ≡ true → end + (beforeData + length o) ≤ limit
         → y ≡ splice (midOf end (length out - end) out) 0 (answerOctets (record { rtype = r .rtype; octets = o }))
-        → Filling before limit qtype used table at (putMid end (length out - end) out y) (end + (12 + length o)) (count + 1) (r .end)
+        → Filling before limit qtype used table at (putMid end (length out - end) out y) (end + (beforeData + length o)) (count + 1) (r .end)
     filling-put o y q k h w =
-        let n : end + length (answerOctets (answerIn table r)) ≡ end + (12 + length o) = omega (arith, ap length q) in
+        let n : end + length (answerOctets (answerIn table r)) ≡ end + (beforeData + length o) = omega (arith, ap length q) in
         subst (λ (m : ℕ). Filling before limit qtype used table at (putMid end (length out - end) out y) m (count + 1) (r .end)) n
         (one-more y k (omega arith) (w ∙ ap (λ (x : List ℕ). splice (midOf end (length out - end) out) 0 (answerOctets (record { rtype = r .rtype; octets = x }))) q))
 
 -- ---- the reply
 
 -- octets written behind the first 12, and then the first 12
-head-splice : (d xs ys : List ℕ) → length xs ≡ 12 → 12 + length ys ≤ length d → splice (splice d 12 ys) 0 xs ≡ splice d 0 (xs ++ ys)
+head-splice : (d xs ys : List ℕ) → length xs ≡ headerOctets → headerOctets + length ys ≤ length d → splice (splice d headerOctets ys) 0 xs ≡ splice d 0 (xs ++ ys)
 head-splice d xs ys l h =
-    let n : length (xs ++ ys) ≡ 12 + length ys = omega (arith, length-append xs ys) in
-    splice-start (splice d 12 ys) xs
-    ∙ ap (λ (k : ℕ). xs ++ drop k (splice d 12 ys)) l
-    ∙ ap (λ (r : List ℕ). xs ++ r) (drop-splice d 12 ys h)
-    ∙ sym (append-assoc xs ys (drop (12 + length ys) d))
+    let n : length (xs ++ ys) ≡ headerOctets + length ys = omega (arith, length-append xs ys) in
+    splice-start (splice d headerOctets ys) xs
+    ∙ ap (λ (k : ℕ). xs ++ drop k (splice d headerOctets ys)) l
+    ∙ ap (λ (r : List ℕ). xs ++ r) (drop-splice d headerOctets ys h)
+    ∙ sym (append-assoc xs ys (drop (headerOctets + length ys) d))
     ∙ ap (λ (k : ℕ). (xs ++ ys) ++ drop k d) (sym n)
     ∙ sym (splice-start d (xs ++ ys))
 
 -- the octets of a reply are the header's, the question's and the answers'
 pub reply-length : (id : ℕ) (c t : Bool) (question : List ℕ) (r : Taken)
-    → length (replyOctets id c t question r) ≡ 12 + length question + length (answersOctets (r .answers))
+    → length (replyOctets id c t question r) ≡ headerOctets + length question + length (answersOctets (r .answers))
 unfolding replyOctets
 reply-length id c t question r = omega (arith, length-append question (answersOctets (r .answers)))
 
 module _ (out : List ℕ) (limit : ℕ) (head : ReplyHead) (question : List ℕ) (qtype : ℕ) (answers : List Answer) where
   pub reply-short : length out < limit → record { len = 0; octets = out } ≡ replyWritten out limit head question qtype answers
   unfolding replyWritten
-  reply-short h = rw (lt-ltb _ _ h)
+  reply-short h = rw (lt-leb _ _ h)
 
-  pub reply-no-room : limit ≤ length out → limit < 12 + length question
+  pub reply-no-room : limit ≤ length out → limit < headerOctets + length question
       → record { len = 0; octets = out } ≡ replyWritten out limit head question qtype answers
   unfolding replyWritten
-  reply-no-room g h = rw (le-ltb _ _ g, lt-ltb _ _ h)
+  reply-no-room g h = rw (le-leb _ _ g, lt-leb _ _ h)
 
   -- Written are the question, the answers behind it, and last the header, field by field.
-  pub reply-written : limit ≤ length out → 12 + length question ≤ limit
+  pub reply-written : limit ≤ length out → headerOctets + length question ≤ limit
       → (r : Answers) (flags : List ℕ) {b0 b1 b2 b3 b4 b5 b6 : List ℕ}
-      → b0 ≡ put out 12 question
-      → Filled r (12 + length question) b0 b1 (takenOf limit qtype question answers)
+      → b0 ≡ put out headerOctets question
+      → Filled r (headerOctets + length question) b0 b1 (takenOf limit qtype question answers)
       → flags ≡ replyFlags (head .conflict) (r .cut) (head .tentative)
       → b2 ≡ put b1 0 (bigOctets (head .id))
       → b3 ≡ put b2 2 flags
@@ -318,12 +322,12 @@ module _ (out : List ℕ) (limit : ℕ) (head : ReplyHead) (question : List ℕ)
       let t : Taken = takenOf limit qtype question answers in
       let xs : List ℕ = answersOctets (t .answers) in
       let whole : List ℕ = replyTo limit head question qtype answers in
-      let size : length whole ≡ 12 + length question + length xs = reply-length (head .id) (head .conflict) (head .tentative) question t in
-      let within : 12 + length question + length xs ≤ limit = taken-are limit qtype (12 + length question) answers h .within in
+      let size : length whole ≡ headerOctets + length question + length xs = reply-length (head .id) (head .conflict) (head .tentative) question t in
+      let within : headerOctets + length question + length xs ≤ limit = taken-are limit qtype (headerOctets + length question) answers h .within in
       let n = length-append question xs in
-      let p0 : b0 ≡ splice out 12 question = e0 ∙ put-in out 12 question (omega arith) in
-      let p1 : b1 ≡ splice out 12 (question ++ xs) = f .written ∙ ap (λ (b : List ℕ). splice b (12 + length question) xs) p0 ∙ splice-splice out 12 question xs (omega arith) in
-      let m : length b1 ≡ length out = ap length p1 ∙ length-splice out 12 (question ++ xs) (omega arith) in
+      let p0 : b0 ≡ splice out headerOctets question = e0 ∙ put-in out headerOctets question (omega arith) in
+      let p1 : b1 ≡ splice out headerOctets (question ++ xs) = f .written ∙ ap (λ (b : List ℕ). splice b (headerOctets + length question) xs) p0 ∙ splice-splice out headerOctets question xs (omega arith) in
+      let m : length b1 ≡ length out = ap length p1 ∙ length-splice out headerOctets (question ++ xs) (omega arith) in
       let w2 = first b1 (bigOctets (head .id)) e2 (omega arith) in
       let w3 = next (replyFlags (head .conflict) (r .cut) (head .tentative)) 2 w2 (e3 ∙ ap (put b2 2) e) refl (omega arith) in
       let w4 = next (0 ∷ 1 ∷ []) 4 w3 e4 refl (omega arith) in
@@ -333,9 +337,9 @@ module _ (out : List ℕ) (limit : ℕ) (head : ReplyHead) (question : List ℕ)
       let p6 : b6 ≡ splice out 0 whole =
       w6 .is
       ∙ ap (λ (b : List ℕ). splice b 0 (head12 (r .cut) (r .count))) p1
-      ∙ ap (λ (c : Bool). splice (splice out 12 (question ++ xs)) 0 (head12 c (r .count))) (f .cut)
-      ∙ ap (λ (k : ℕ). splice (splice out 12 (question ++ xs)) 0 (head12 (t .cut) k)) (f .count)
+      ∙ ap (λ (c : Bool). splice (splice out headerOctets (question ++ xs)) 0 (head12 c (r .count))) (f .cut)
+      ∙ ap (λ (k : ℕ). splice (splice out headerOctets (question ++ xs)) 0 (head12 (t .cut) k)) (f .count)
       ∙ head-splice out (head12 (t .cut) (length (t .answers))) (question ++ xs) refl (omega arith) in
-      rw (le-ltb _ _ g, le-ltb _ _ h)
+      rw (le-leb _ _ g, le-leb _ _ h)
       (ap (λ (k : ℕ). record { len = k; octets = b6 }) (f .end ∙ sym size)
       ∙ ap (λ (b : List ℕ). record { len = length whole; octets = b }) (p6 ∙ sym (put-in out 0 whole (omega arith))))

@@ -1,5 +1,5 @@
 -- Numbers of document 01 about messages.
-use Prim.Native.Nat.{ℕ}
+use Prim.Native.Nat.{ℕ, _+_}
 
 -- octets of a header
 abbrev pub headerOctets : ℕ
@@ -24,3 +24,7 @@ replyTTL = 30
 -- octets of the pointer that is the owner of every record that we write
 abbrev pub ownerOctets : ℕ
 ownerOctets = 2
+
+-- octets of every record that we write before its data
+abbrev pub beforeData : ℕ
+beforeData = ownerOctets + fixedOctets

@@ -2,7 +2,7 @@
 use Prim.Native.Nat.{ℕ, _+_, _≤_}
 use mathlib.Core.Path.{_≡_}
 use mathlib.Core.List.{List, _++_}
-use mathlib.Core.Bool.{cond}
+use mathlib.Core.Bool.{Bool, true, false, cond}
 use lib.ListN.{length}
 use Rattle.octets.specs.Octets.{runsPast}
 use Rattle.octets.specs.Words.{bigAt, bigOctets}
@@ -26,6 +26,15 @@ afterName s at BadName = Bad
 -- the question at an offset; bad if its name is, or it is cut short
 unfoldable pub questionAt : List ℕ → ℕ → QuestionRead
 questionAt s at = afterName s at (nameAt s at)
+
+-- a question that is bad reads as zeros
+abbrev pub questionOr : QuestionRead → Question
+questionOr (Good q) = q
+questionOr Bad = record { name = 0; qtype = 0; class = 0; end = 0 }
+
+abbrev pub isBadQuestion : QuestionRead → Bool
+isBadQuestion (Good q) = false
+isBadQuestion Bad = true
 
 -- in plain words: a name stands there, and type and class after it
 pub record IsQuestion (s : List ℕ) (at : ℕ) (q : Question) : Type 0 where

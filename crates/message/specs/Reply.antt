@@ -5,7 +5,8 @@ use mathlib.Core.List.{List, [], _∷_, _++_, map}
 use mathlib.Core.Bool.{Bool, true, false, cond}
 use mathlib.Core.Logic.{_↔_}
 use lib.ListN.{length}
-use lib.Dec.{ltb, eqb}
+use lib.Dec.{ltb, leb, eqb}
+use Rattle.octets.specs.Tests.{_and_, _or_}
 use Rattle.octets.specs.Octets.{Octets, partOf, put, splice}
 use Rattle.octets.specs.Words.{bigOctets}
 use Rattle.names.specs.RecordNameWalk.{expandedAt}
@@ -35,7 +36,7 @@ answersOctets (a ∷ rest) = answerOctets a ++ answersOctets rest
 
 -- a record answers a question of its type, and a question for any type
 abbrev pub isAsked : ℕ → ℕ → Bool
-isAsked qtype rtype = cond (eqb rtype qtype) true (eqb qtype typeANY)
+isAsked qtype rtype = eqb rtype qtype or eqb qtype typeANY
 
 pub record Taken : Type 0 where
   pub answers : List Answer
@@ -111,8 +112,7 @@ replyTo limit head question qtype answers =
 
 -- a reply is written if the buffer has as many octets as the limit, and header and question do not pass it
 abbrev pub hasRoom : List ℕ → ℕ → List ℕ → Bool
-hasRoom out limit question =
-    cond (ltb (length out) limit) false (cond (ltb limit (headerOctets + length question)) false true)
+hasRoom out limit question = leb limit (length out) and leb (headerOctets + length question) limit
 
 -- the length that the writer gives, and the buffer that it leaves
 pub record Written : Type 0 where

@@ -302,7 +302,7 @@ fn put_answer(part: &mut [u8], rtype: u16, rdata: &[u8])
     octets::put_big(part, 6, 0);
     octets::put_big(part, 8, ResourceRecord::TTL);
     octets::put_big(part, 10, rdata.len() as u16);
-    octets::put_octets(part, 12, rdata);
+    octets::put_octets(part, ResourceRecord::ANSWER, rdata);
 }
 
 // Where the answers end, how many there are, and whether one was left out.

@@ -2,34 +2,47 @@
 use Prim.Native.Nat.{ℕ, suc, zero, _+_, _-_, _<_, _≤_}
 use mathlib.Core.Path.{_≡_, refl, sym, ap, _∙_}
 use mathlib.Core.List.{List, [], _∷_, _++_}
-use mathlib.Core.Bool.{true}
+use mathlib.Core.Bool.{true, false}
 use native.Mathlib.Omega.{arith}
-use lib.Dec.{ltb, eqb}
+use lib.Dec.{eqb}
 use lib.ListN.{length, take, drop, length-append, length-drop, List·getD-append}
 use lib.Seq.{take-append-le, drop-append-le}
-use borrow.Author.Tests.{eq-eqb, ne-eqb, le-ltb, le-leb, eqb-true, eqb-false, ltb-false, leb-true}
+use borrow.Author.Tests.{eq-eqb, ne-eqb, le-leb, eqb-true, eqb-false, leb-true}
 use Rattle.octets.specs.Octets.{partOf}
-use Rattle.octets.proofs.Tests.{split}
+use Rattle.octets.proofs.Tests.{split, both}
 use Rattle.octets.proofs.Octets.{part-in}
+use Rattle.name_table.specs.Bounds.{entryHead}
 use Rattle.name_table.specs.Kinds.{kindOf}
-use Rattle.name_table.specs.Check.{State, Stepped, on, broken, whole, stopped, lengthAt, kindAt, bodyAt, isWhole, formBy, formAt, stepBy, step, from, checkFrom}
+use Rattle.name_table.specs.Check.{State, Stepped, on, broken, whole, stopped, lengthAt, kindAt, bodyAt, isWhole, wholeLength, formBy, formAt, stepBy, step, from, checkFrom}
 
 -- an entry's length and kind are there, and its length counts them and lies within s
 pub record Whole (s : List ℕ) : Type 0 where
-  pub head : 4 ≤ length s
-  pub least : 4 ≤ lengthAt s
+  pub head : entryHead ≤ length s
+  pub least : entryHead ≤ lengthAt s
   pub inside : lengthAt s ≤ length s
 
 pub whole-yes : (s : List ℕ) → Whole s → isWhole s ≡ true
 unfolding isWhole
-whole-yes s w = rw (le-ltb _ _ (w .head), le-ltb _ _ (w .least), le-leb _ _ (w .inside))
+whole-yes s w = rw (le-leb _ _ (w .head), le-leb _ _ (w .least), le-leb _ _ (w .inside))
 
 pub whole-is : (s : List ℕ) → isWhole s ≡ true → Whole s
 unfolding isWhole
 whole-is s e =
-    split (ltb (length s) 4) (λ p. absurd (let z : _≡_ {A = ℕ} 0 1 = cc (rw p at e) in omega arith)) λ p.
-    split (ltb (lengthAt s) 4) (λ q. absurd (let z : _≡_ {A = ℕ} 0 1 = cc (rw (p, q) at e) in omega arith)) λ q.
-    record { head = ltb-false _ _ p; least = ltb-false _ _ q; inside = leb-true _ _ (rw (p, q) at e) }
+    let t = both _ _ .0 e in
+    let u = both _ _ .0 (t .1) in
+    record { head = leb-true _ _ (t .0); least = leb-true _ _ (u .0); inside = leb-true _ _ (u .1) }
+
+-- the length of a whole entry is not 0, and no other entry's is
+module _ (s : List ℕ) where
+  pub some-whole : (wholeLength s ≡ 0 → ⊥) → isWhole s ≡ true
+  some-whole n = split (isWhole s) (λ w. w) (λ w. absurd (n (rw w)))
+
+  pub none-whole : wholeLength s ≡ 0 → isWhole s ≡ false
+  none-whole e =
+      split (isWhole s) (λ w. let l : lengthAt s ≡ 0 = rw w at e in absurd (omega (arith, whole-is s w .least))) (λ w. w)
+
+  pub whole-length : isWhole s ≡ true → wholeLength s ≡ lengthAt s
+  whole-length w = rw w
 
 -- a step that takes an entry takes a whole one
 pub step-whole : (s : List ℕ) (σ τ : State) → step s σ ≡ on τ → Whole s
@@ -63,10 +76,10 @@ module _ (x y : List ℕ) (w : Whole x) where
   body-more : bodyAt (x ++ y) ≡ bodyAt x
   body-more =
       let l : lengthAt x ≤ length (x ++ y) = omega (arith, w .inside, length-append x y) in
-      let i : lengthAt x - 4 ≤ length (drop 4 x) = omega (arith, w .inside, length-drop 4 x) in
-      ap (partOf (x ++ y) 4) length-more ∙ part-in (x ++ y) 4 (lengthAt x) (w .least) l
-      ∙ ap (take (lengthAt x - 4)) (drop-append-le 4 x y (w .head)) ∙ take-append-le (lengthAt x - 4) (drop 4 x) y i
-      ∙ sym (part-in x 4 (lengthAt x) (w .least) (w .inside))
+      let i : lengthAt x - entryHead ≤ length (drop entryHead x) = omega (arith, w .inside, length-drop entryHead x) in
+      ap (partOf (x ++ y) entryHead) length-more ∙ part-in (x ++ y) entryHead (lengthAt x) (w .least) l
+      ∙ ap (take (lengthAt x - entryHead)) (drop-append-le entryHead x y (w .head)) ∙ take-append-le (lengthAt x - entryHead) (drop entryHead x) y i
+      ∙ sym (part-in x entryHead (lengthAt x) (w .least) (w .inside))
 
   whole-more : Whole (x ++ y)
   whole-more =

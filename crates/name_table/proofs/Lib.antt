@@ -1,7 +1,9 @@
 pub mod Fold
 pub mod Shown
 pub mod Entries
+pub mod Judge
 pub mod Meaning
 pub mod Records
-pub mod Read
 pub mod Numbers
+pub mod Read
+pub mod Held

@@ -16,7 +16,8 @@ use Rattle.name_table.specs.Bounds.{longestTable}
 use Rattle.name_table.specs.Check.{Held, State, on, broken, Walked, whole, stopped, good, bad, checkedBy, lengthAt, step, from, checkFrom, start, checkTable}
 use Rattle.name_table.specs.Entries.{Entry, entryOctets, tableOctets, names, Keeps, AllKeep, GoodTable, Breaks, BadEntry, located}
 use Rattle.name_table.proofs.Fold.{step-whole, turn-on, turn-end, turn-off, shorter, fuel}
-use Rattle.name_table.proofs.Entries.{stateOf, AreNames, entry-rest, Judged, taken, refused, judge, none-stands, one-entry, takes, names-kept}
+use Rattle.name_table.proofs.Entries.{stateOf, AreNames, entry-rest, none-stands, one-entry, names-kept}
+use Rattle.name_table.proofs.Judge.{Judged, taken, refused, judge, takes}
 
 -- what a check from the state after `before` comes to
 data Run (before : List Entry) (s : List ℕ) : Walked → Type 0 where

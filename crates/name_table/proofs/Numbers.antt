@@ -15,16 +15,16 @@ use Rattle.names.specs.Names.{Labels, IsName, encode}
 use Rattle.names.specs.Folding.{foldedName}
 use Rattle.name_table.specs.Bounds.{mostNames}
 use Rattle.name_table.specs.Kinds.{kindOf}
-use Rattle.name_table.specs.Check.{findName}
+use Rattle.name_table.specs.Check.{noName, findName}
 use Rattle.name_table.specs.Entries.{Entry, name, resource, names, New, Keeps, AllKeep, GoodTable, located}
 use Rattle.name_table.specs.Shown.{heldAt, namesOf, nameOf}
 use Rattle.name_table.specs.declared.Table.{Table}
 use Rattle.name_table.specs.declared.Found.the-variants.{At, Nothing}
 use Rattle.name_table.specs.declared.NameFound.the-variants.{At as Named, Nothing as Unnamed}
 use Rattle.name_table.proofs.Shown.{held-length, held-at}
-use Rattle.name_table.proofs.Entries.{names-append, Sought, equal, none, seek, not-new}
+use Rattle.name_table.proofs.Entries.{names-append, not-new}
+use Rattle.name_table.proofs.Judge.{Sought, equal, none, seek}
 use Rattle.name_table.proofs.Meaning.{all-names}
-use Rattle.name_table.proofs.Records.{noName}
 
 -- no two names of some list are equal
 abbrev Distinct : List Labels → Type 0

@@ -9,13 +9,14 @@ use Rattle.octets.specs.Octets.{partOf}
 use Rattle.octets.proofs.Tests.{split}
 use Rattle.octets.proofs.Octets.{part-in}
 use Rattle.names.specs.Names.{Labels, encode}
+use Rattle.name_table.specs.Bounds.{entryHead}
 use Rattle.name_table.specs.Kinds.{kindOf}
 use Rattle.name_table.specs.declared.Kind.{Kind}
 use Rattle.name_table.specs.declared.Kind.the-variants.{Unique, Shared, Octets, Target, Unknown}
 use Rattle.name_table.specs.declared.Record.{Record}
 use Rattle.name_table.specs.declared.RecordRead.{RecordRead}
 use Rattle.name_table.specs.declared.RecordRead.the-variants.{Good, End}
-use Rattle.name_table.specs.Check.{Held, isWhole, lengthAt, kindAt}
+use Rattle.name_table.specs.Check.{noName, isWhole, lengthAt, kindAt}
 use Rattle.name_table.specs.Records.{recordBy, recordAt, onRecord, recordsFrom, recordsOf, answerIn}
 use Rattle.name_table.specs.Entries.{NameKind, unique, shared, Data, a, aaaa, ptr, Entry, name, resource, kind, dataOctets, dataType, body, entryOctets, tableOctets, names, located, leading, owned, Answer, answerOf, GoodTable}
 use Rattle.name_table.proofs.Fold.{whole-yes, whole-is}
@@ -30,12 +31,12 @@ record-end (Target t) start end r e = let q : record { rtype = t; start = start;
 record-end Unknown start end r e = absurd (let z : _≡_ {A = ℕ} 0 1 = cc in omega arith)
 
 -- a record that is read ends after it begins, within the table
-pub record-inside : (s : List ℕ) (at : ℕ) (r : Record) → recordAt s at ≡ Good r → (at + 4 ≤ r .end) × (r .end ≤ length s)
+pub record-inside : (s : List ℕ) (at : ℕ) (r : Record) → recordAt s at ≡ Good r → (at + entryHead ≤ r .end) × (r .end ≤ length s)
 unfolding recordAt
 record-inside s at r e =
     split (isWhole (drop at s))
     (λ p. let w = whole-is (drop at s) p in
-    let q : r .end ≡ at + lengthAt (drop at s) = record-end (kindOf (kindAt (drop at s))) (at + 4) (at + lengthAt (drop at s)) r (rw p at e) in
+    let q : r .end ≡ at + lengthAt (drop at s) = record-end (kindOf (kindAt (drop at s))) (at + entryHead) (at + lengthAt (drop at s)) r (rw p at e) in
     (omega (arith, w .least), omega (arith, w .head, w .inside, length-drop at s)))
     (λ p. absurd (let z : _≡_ {A = ℕ} 0 1 = cc (rw p at e) in omega arith))
 
@@ -79,20 +80,20 @@ module _ (s b : List ℕ) (e : Entry) (r : List ℕ) (q : s ≡ b ++ (entryOctet
   rest-is : drop (length b) s ≡ entryOctets e ++ r
   rest-is = ap (drop (length b)) q ∙ drop-at b (entryOctets e ++ r) (length b) refl
 
-  long : length s ≡ length b + (4 + length (body e)) + length r
+  long : length s ≡ length b + (entryHead + length (body e)) + length r
   long = ap length q ∙ length-append b (entryOctets e ++ r) ∙ omega (arith, length-append (entryOctets e) r, entry-length e)
 
   -- its body is the part between its head and its end
-  pub body-stands : partOf s (length b + 4) (length b + (4 + length (body e))) ≡ body e
+  pub body-stands : partOf s (length b + entryHead) (length b + (entryHead + length (body e))) ≡ body e
   body-stands =
-      let h : length b + 4 ≤ length b + (4 + length (body e)) = omega arith in
-      let g : length b + (4 + length (body e)) ≤ length s = omega (arith, long) in
-      let z : length (body e) ≡ length b + (4 + length (body e)) - (length b + 4) = omega arith in
-      part-in s (length b + 4) (length b + (4 + length (body e))) h g
-      ∙ ap (take (length b + (4 + length (body e)) - (length b + 4))) (sym (drop-drop 4 (length b) s) ∙ ap (drop 4) rest-is)
+      let h : length b + entryHead ≤ length b + (entryHead + length (body e)) = omega arith in
+      let g : length b + (entryHead + length (body e)) ≤ length s = omega (arith, long) in
+      let z : length (body e) ≡ length b + (entryHead + length (body e)) - (length b + entryHead) = omega arith in
+      part-in s (length b + entryHead) (length b + (entryHead + length (body e))) h g
+      ∙ ap (take (length b + (entryHead + length (body e)) - (length b + entryHead))) (sym (drop-drop entryHead (length b) s) ∙ ap (drop entryHead) rest-is)
       ∙ take-at (body e) r _ z
 
-  record-stands : recordAt s (length b) ≡ recordBy (kindOf (kind e)) (length b + 4) (length b + (4 + length (body e)))
+  record-stands : recordAt s (length b) ≡ recordBy (kindOf (kind e)) (length b + entryHead) (length b + (entryHead + length (body e)))
   unfolding recordAt
   record-stands = rw (rest-is, whole-yes (entryOctets e ++ r) (entry-whole e r), entry-kind e r, entry-size e r)
 
@@ -100,7 +101,7 @@ module _ (s b : List ℕ) (e : Entry) (r : List ℕ) (q : s ≡ b ++ (entryOctet
   next-stands : s ≡ (b ++ entryOctets e) ++ r
   next-stands = q ∙ sym (append-assoc b (entryOctets e) r)
 
-  next-at : length (b ++ entryOctets e) ≡ length b + (4 + length (body e))
+  next-at : length (b ++ entryOctets e) ≡ length b + (entryHead + length (body e))
   next-at = length-append b (entryOctets e) ∙ ap (λ (n : ℕ). length b + n) (entry-length e)
 
 record-of-data : (d : Data) (start end : ℕ) → recordBy (kindOf (kind (resource d))) start end ≡ Good (record { rtype = dataType d; start = start; end = end })
@@ -125,18 +126,14 @@ unfolding recordsFrom
 leads zero s b es q h = absurd (omega arith)
 leads (suc k) s b [] q h = rw (none-at s (length b) (ap (drop (length b)) q ∙ drop-at b [] (length b) refl))
 leads (suc k) s b (name j n ∷ es) q h =
-    rw (record-stands s b (name j n) (tableOctets es) q, no-record j n (length b + 4) (length b + (4 + length (encode n))))
+    rw (record-stands s b (name j n) (tableOctets es) q, no-record j n (length b + entryHead) (length b + (entryHead + length (encode n))))
 leads (suc k) s b (resource d ∷ es) q h =
     let e : Entry = resource d in
     let r = tableOctets es in
-    let i : recordAt s (length b) ≡ Good (record { rtype = dataType d; start = length b + 4; end = length b + (4 + length (dataOctets d)) }) = record-stands s b e r q ∙ record-of-data d (length b + 4) (length b + (4 + length (dataOctets d))) in
+    let i : recordAt s (length b) ≡ Good (record { rtype = dataType d; start = length b + entryHead; end = length b + (entryHead + length (dataOctets d)) }) = record-stands s b e r q ∙ record-of-data d (length b + entryHead) (length b + (entryHead + length (dataOctets d))) in
     let l : length (tableOctets es) < k = omega (arith, length-append (entryOctets e) r, entry-length e) in
     let t = leads k s (b ++ entryOctets e) es (next-stands s b e r q) l in
     rw (i, body-stands s b e r q) (ap (λ (u : List Answer). answerOf d ∷ u) (rw (next-at s b e r q) at t))
-
--- the zero value, past the end of a list of names
-abbrev pub noName : Held
-noName = record { kind = 0; start = 0; end = 0; octets = [] }
 
 -- some entries that stand after the octets b: the octets and the records of their k-th name
 by-number : (s b : List ℕ) (es : List Entry) (k : ℕ) → s ≡ b ++ tableOctets es → k < length (names es)
@@ -167,10 +164,12 @@ module _ (s : List ℕ) (t : GoodTable s) (k : ℕ) (h : k < length (names (t .e
   records-are = by-number s [] (t .entries) k (t .octets) h .1
 
 -- a turn of the loop that counts records
-pub count-on : (s : List ℕ) (at : ℕ) (r : Record) → recordAt s at ≡ Good r → length (recordsOf s at) ≡ 1 + length (recordsOf s (r .end))
+pub count-on : (s : List ℕ) (at : ℕ) (r : Record) → recordAt s at ≡ Good r
+    → (at + entryHead ≤ r .end) × (r .end ≤ length s) × (length (recordsOf s at) ≡ 1 + length (recordsOf s (r .end)))
 count-on s at r e =
+    let i = record-inside s at r e in
     let q : recordsOf s at ≡ r ∷ recordsOf s (r .end) = records-turn s at ∙ rw e in
-    ap length q ∙ omega arith
+    (i .0, i .1, ap length q ∙ omega arith)
 
 pub count-end : (s : List ℕ) (at : ℕ) → recordAt s at ≡ End → length (recordsOf s at) ≡ 0
 count-end s at e =

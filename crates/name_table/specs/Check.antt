@@ -1,11 +1,12 @@
 -- The check of a name table, to be computed: a fold of one entry's step over a small state. What it means: specs/Entries.antt.
 use Prim.Native.Nat.{ℕ, zero, suc, _+_}
 use mathlib.Core.List.{List, [], _∷_, _++_}
-use mathlib.Core.Bool.{Bool, false, cond}
-use lib.ListN.{length, drop}
+use mathlib.Core.Bool.{Bool, true, false, cond}
+use lib.ListN.{length, getD, drop}
 use lib.Dec.{ltb, leb, eqb}
 use Rattle.octets.specs.Octets.{partOf}
 use Rattle.octets.specs.Words.{littleAt}
+use Rattle.octets.specs.Tests.{_and_}
 use Rattle.names.specs.declared.NameRead.{NameRead}
 use Rattle.names.specs.declared.NameRead.the-variants.{Good as GoodName, Bad as BadName}
 use Rattle.names.specs.NameWalk.{nameAt}
@@ -31,10 +32,11 @@ bodyAt s = partOf s entryHead (lengthAt s)
 
 -- the entry at the start of s is whole: its length and kind are there, and its length counts them and does not run past s
 unfoldable pub isWhole : List ℕ → Bool
-isWhole s =
-    cond (ltb (length s) entryHead) false
-    (cond (ltb (lengthAt s) entryHead) false
-    (leb (lengthAt s) (length s)))
+isWhole s = leb entryHead (length s) and leb entryHead (lengthAt s) and leb (lengthAt s) (length s)
+
+-- its length; 0 where it is not whole
+abbrev pub wholeLength : List ℕ → ℕ
+wholeLength s = cond (isWhole s) (lengthAt s) 0
 
 -- a name without pointers fills the body
 abbrev pub lengthIs : NameRead → ℕ → Bool
@@ -80,6 +82,10 @@ pub record Held : Type 0 where
   pub end : ℕ
   pub octets : List ℕ
 
+-- a name that is not there
+abbrev pub noName : Held
+noName = record { kind = 0; start = 0; end = 0; octets = [] }
+
 -- the number of the first name that equals x, counted from k
 unfoldable pub findFrom : ℕ → List Held → List ℕ → Found
 findFrom k [] x = Nothing
@@ -87,6 +93,15 @@ findFrom k (h ∷ hs) x = cond (sameName (h .octets) x) (At k) (findFrom (k + 1)
 
 abbrev pub findName : List Held → List ℕ → Found
 findName hs x = findFrom 0 hs x
+
+-- a name was found; and its number, 0 where none was
+abbrev pub isFound : Found → Bool
+isFound (At k) = true
+isFound Nothing = false
+
+abbrev pub numberOr : Found → ℕ
+numberOr (At k) = k
+numberOr Nothing = 0
 
 -- what is kept between entries: the names so far, the records of the last one, the offset of the next entry
 pub record State : Type 0 where
@@ -157,3 +172,21 @@ checkedBy (stopped at) = bad at
 -- a table that is too long is refused before any entry is read
 unfoldable pub checkTable : List ℕ → Checked
 checkTable s = cond (ltb longestTable (length s)) (bad longestTable) (checkedBy (checkFrom s start))
+
+-- the table is not good; and the offset of its bad entry
+abbrev pub isBad : Checked → Bool
+isBad (good hs) = false
+isBad (bad at) = true
+
+abbrev pub badAt : Checked → ℕ
+badAt (good hs) = 0
+badAt (bad at) = at
+
+-- the names of a good table
+abbrev pub namesIn : Checked → List Held
+namesIn (good hs) = hs
+namesIn (bad at) = []
+
+-- the k-th name of a table
+abbrev pub nameIn : List ℕ → ℕ → Held
+nameIn table k = getD (namesIn (checkTable table)) k noName

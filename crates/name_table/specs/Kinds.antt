@@ -1,6 +1,6 @@
 -- Kinds of entries: 1 unique name, 2 shared name (body: a name), 3 A (4 octets), 4 AAAA (16), 5 PTR (a name).
 use Prim.Native.Nat.{ℕ}
-use mathlib.Core.Bool.{cond}
+use mathlib.Core.Bool.{Bool, true, false, cond}
 use lib.Dec.{eqb}
 use Rattle.octets.specs.Bounds.{usedBy4, usedBy6}
 use Rattle.name_table.specs.Bounds.{typeA, typePTR, typeAAAA}
@@ -16,3 +16,11 @@ kindOf k =
     (cond (eqb k 4) (Octets typeAAAA usedBy6)
     (cond (eqb k 5) (Target typePTR)
     Unknown))))
+
+-- a shared name
+abbrev pub isSharedKind : Kind → Bool
+isSharedKind Unique = false
+isSharedKind Shared = true
+isSharedKind (Octets rtype len) = false
+isSharedKind (Target rtype) = false
+isSharedKind Unknown = false

@@ -1,13 +1,13 @@
--- How the code's values show those of the definitions: a name's octets are a part of the table.
-use Prim.Native.Nat.{ℕ, zero, suc, _+_, min}
-use mathlib.Core.List.{List, [], _∷_}
-use mathlib.Core.Bool.{cond}
-use lib.ListN.{getD, set, replicate}
+-- How the code's values show those of the definitions: a name's octets are a part of the table. What reading a table gives.
+use Prim.Native.Nat.{ℕ, zero, suc, _+_, _-_, min}
+use mathlib.Core.List.{List, [], _∷_, _++_, map}
+use mathlib.Core.Bool.{true, false, cond, not}
+use lib.ListN.{length, getD, replicate}
 use lib.Dec.{leb}
 use Rattle.octets.specs.Octets.{partOf}
 use Rattle.name_table.specs.Bounds.{mostNames}
 use Rattle.name_table.specs.Kinds.{kindOf}
-use Rattle.name_table.specs.Check.{Held, Checked, good, bad}
+use Rattle.name_table.specs.Check.{Held, Checked, good, bad, isBad, badAt, namesIn, checkTable}
 use Rattle.name_table.specs.declared.Table.{Table}
 use Rattle.name_table.specs.declared.TableRead.{TableRead}
 use Rattle.name_table.specs.declared.NameFound.{NameFound}
@@ -31,22 +31,35 @@ heldFrom (suc n) s kinds starts ends i = heldAt s kinds starts ends i ∷ heldFr
 abbrev pub namesOf : List ℕ → Table → List Held
 namesOf s t = heldFrom (min (t .names) mostNames) s (t .kinds) (t .starts) (t .ends) 0
 
--- no names
-abbrev pub empty : Table
-empty =
-    record { kinds = replicate mostNames 0; starts = replicate mostNames 0; ends = replicate mostNames 0; names = 0 }
+-- some numbers, one for each name, and zeros after them
+abbrev pub padded : List ℕ → List ℕ
+padded xs = xs ++ replicate (mostNames - length xs) 0
 
--- one name more
-abbrev pub added : Table → ℕ → ℕ → ℕ → Table
-added t kind start end =
+-- the table of some names: an array of their kinds, of their starts and of their ends, and how many there are
+abbrev pub tableOf : List Held → Table
+tableOf hs =
     record {
-      kinds = set (t .kinds) (t .names) kind;
-      starts = set (t .starts) (t .names) start;
-      ends = set (t .ends) (t .names) end;
-      names = t .names + 1;
+      kinds = padded (map (λ h. h .kind) hs);
+      starts = padded (map (λ h. h .start) hs);
+      ends = padded (map (λ h. h .end) hs);
+      names = length hs;
     }
 
--- what the code's reading of a table says
+abbrev pub empty : Table
+empty = tableOf []
+
+-- what reading a table gives: whether it is good, the offset of its bad entry (0 if it is good), its names (none if it is bad)
+abbrev pub readBy : Checked → TableRead
+readBy c = record { good = not (isBad c); at = badAt c; table = tableOf (namesIn c) }
+
+unfoldable pub tableRead : List ℕ → TableRead
+tableRead s = readBy (checkTable s)
+
+-- the reading that a scan comes to: names that it found before a bad entry are dropped
+abbrev pub settled : TableRead → TableRead
+settled r = cond (r .good) (record { good = true; at = 0; table = r .table }) (record { good = false; at = r .at; table = empty })
+
+-- what a reading of a table says
 abbrev pub shown : List ℕ → TableRead → Checked
 shown s r = cond (r .good) (good (namesOf s (r .table))) (bad (r .at))
 

@@ -1,14 +1,15 @@
 // The name table: its check, its names, and the records of a name.
 ghost use mathlib.Core.Path.{_≡_};
 ghost use mathlib.Core.Bool.{false};
-ghost use Prim.Native.Nat.{_+_, _<_, min};
+ghost use mathlib.Core.List.{List};
+ghost use Prim.Native.Nat.{ℕ, _≤_, min};
 ghost use lib.ListN.{length};
 ghost use lib.Dec.{eqb};
-ghost use Rattle.name_table.specs.Bounds.{mostNames};
+ghost use Rattle.name_table.specs.Bounds.{longestTable, mostNames};
 ghost use Rattle.name_table.specs.Kinds.{kindOf};
-ghost use Rattle.name_table.specs.Check.{isWhole, nameFills, nameForm, recordForm, formAt, findName, checkTable};
+ghost use Rattle.name_table.specs.Check.{wholeLength, nameFills, nameForm, recordForm, formBy, findName};
 ghost use Rattle.name_table.specs.Records.{recordBy, recordAt, recordsOf};
-ghost use Rattle.name_table.specs.Shown.{empty, added, namesOf, shown, nameOf};
+ghost use Rattle.name_table.specs.Shown.{heldFrom, namesOf, nameOf, empty, settled, tableRead};
 
 // What an entry's kind says of its body: a unique or a shared name, a record's data of so many octets, or a record's target, which
 // is a name.
@@ -59,8 +60,8 @@ pub fn kind_of(number: u16) -> Kind
 // Its records begin where its octets end.
 pub struct Table {
     pub kinds: [u16; Table::NAMES],
-    pub starts: [usize; Table::NAMES],
-    pub ends: [usize; Table::NAMES],
+    pub starts: [u16; Table::NAMES],
+    pub ends: [u16; Table::NAMES],
     pub names: usize,
 }
 
@@ -75,18 +76,18 @@ impl Table {
     pub const HEAD: usize = 4;
 }
 
-// Whether the entry at the start of s is whole.
-fn is_whole(s: &[u8]) -> bool
-    ensures { λ r. ⌜ r ≡ isWhole (now (s .entry)) ⌝ }
+// The length of the entry at the start of s; 0 where none is whole.
+fn whole_length(s: &[u8]) -> usize
+    ensures { λ r. ⌜ r ≡ wholeLength (now (s .entry)) ⌝ }
 {
     if s.len() < Table::HEAD {
-        return false;
+        return 0;
     }
     let len = octets::little(s, 0) as usize;
     if len < Table::HEAD {
-        return false;
+        return 0;
     }
-    if len <= s.len() { true } else { false }
+    if len <= s.len() { len } else { 0 }
 }
 
 // Whether a name without pointers fills a body.
@@ -143,22 +144,17 @@ fn record_form(names: usize, records: usize, body: bool) -> Form
     Form::Bad
 }
 
-// The form of the entry at the start of s, after so many names and so many records of the last one.
-fn form_at(s: &[u8], names: usize, records: usize) -> Form
-    ensures { λ r. ⌜ r ≡ formAt (now (s .entry)) names records ⌝ }
+// The form of an entry of some kind, after so many names and so many records of the last one.
+fn form_by(kind: Kind, names: usize, records: usize, body: &[u8]) -> Form
+    ensures { λ r. ⌜ r ≡ formBy kind names records (now (body .entry)) ⌝ }
 {
-    if is_whole(s) {
-        let body = octets::part(s, Table::HEAD, octets::little(s, 0) as usize);
-        let kind = kind_of(octets::little(s, 2));
-        return match kind {
-            Kind::Unique => name_form(names, body),
-            Kind::Shared => name_form(names, body),
-            Kind::Octets { rtype: _, len } => record_form(names, records, has_length(body, len)),
-            Kind::Target { rtype: _ } => record_form(names, records, name_fills(body)),
-            Kind::Unknown => Form::Bad,
-        };
+    match kind {
+        Kind::Unique => name_form(names, body),
+        Kind::Shared => name_form(names, body),
+        Kind::Octets { rtype: _, len } => record_form(names, records, has_length(body, len)),
+        Kind::Target { rtype: _ } => record_form(names, records, name_fills(body)),
+        Kind::Unknown => Form::Bad,
     }
-    Form::Bad
 }
 
 // The number of a name, or none.
@@ -179,21 +175,41 @@ pub enum NameFound {
     Nothing,
 }
 
-// What reading a table gives: its names; or, if it is not good, the offset of the first entry that breaks a rule.
+// What reading a table gives: its names; or, if it is not good, the offset of the first entry that breaks a rule. A good table gives
+// the offset 0, a bad one no names.
 pub struct TableRead {
     pub good: bool,
     pub at: usize,
     pub table: Table,
 }
 
-fn count(names: usize) -> usize
-    ensures { λ r. ⌜ r ≡ min names mostNames ⌝ }
+fn wide(offset: u16) -> usize
+    ensures { λ r. ⌜ r ≡ offset ⌝ }
 {
-    if names < Table::NAMES {
-        names
-    } else {
-        Table::NAMES
+    offset as usize
+}
+
+// The number of the first of some names that equals a given one.
+fn find_among<'a>(
+    table: &[u8],
+    starts: &'a [u16; Table::NAMES],
+    ends: &'a [u16; Table::NAMES],
+    names: usize,
+    name: &[u8],
+) -> Found
+    requires { ⌜ names ≤ mostNames ⌝ }
+    ensures { λ r. ⌜ ((kinds : List ℕ) → r ≡ findName (heldFrom names (now (table .entry)) kinds (now (starts .entry)) (now (ends .entry)) 0) (now (name .entry))) ⌝ }
+{
+    let mut i = 0;
+    while i < names {
+        let a = wide(starts[i]);
+        let e = wide(ends[i]);
+        if names::same_name(octets::part(table, a, e), name) {
+            return Found::At(i);
+        }
+        i = i + 1;
     }
+    Found::Nothing
 }
 
 impl Table {
@@ -208,99 +224,108 @@ impl Table {
         }
     }
 
-    // With one name more.
-    fn with_name(mut self, kind: u16, start: usize, end: usize) -> Self
-        requires { ⌜ self .names < mostNames ⌝ }
-        ensures { λ r. ⌜ r ≡ added self kind start end ⌝ }
+    // So many names; a number above the most counts as the most.
+    pub fn count(names: usize) -> usize
+        ensures { λ r. ⌜ r ≡ min names mostNames ⌝ }
     {
-        let n = self.names;
-        self.kinds[n] = kind;
-        self.starts[n] = start;
-        self.ends[n] = end;
-        self.names = n + 1;
-        self
+        if names < Table::NAMES {
+            names
+        } else {
+            Table::NAMES
+        }
     }
 
     // The number of the name that equals a given one.
     pub fn find(self, table: &[u8], name: &[u8]) -> Found
         ensures { λ r. ⌜ r ≡ findName (namesOf (now (table .entry)) self) (now (name .entry)) ⌝ }
     {
-        let n = count(self.names);
-        let mut i = 0;
-        while i < n {
-            let a = self.starts[i];
-            let e = self.ends[i];
-            if names::same_name(octets::part(table, a, e), name) {
-                return Found::At(i);
-            }
-            i = i + 1;
-        }
-        Found::Nothing
+        let n = Table::count(self.names);
+        find_among(table, &self.starts, &self.ends, n, name)
     }
 
     // The name with a number.
     pub fn name(self, k: usize) -> NameFound
         ensures { λ r. ⌜ r ≡ nameOf self k ⌝ }
     {
-        if count(self.names) <= k {
+        if Table::count(self.names) <= k {
             return NameFound::Nothing;
         }
         let kind = kind_of(self.kinds[k]);
         NameFound::At(Named {
             kind: kind,
-            start: self.starts[k],
-            end: self.ends[k],
+            start: self.starts[k] as usize,
+            end: self.ends[k] as usize,
         })
     }
 
-    fn refused(at: usize) -> TableRead
-        ensures { λ r. ⌜ r ≡ record { good = false; at = at; table = empty } ⌝ }
+    fn given(good: bool, at: usize, table: Table) -> TableRead
+        ensures { λ r. ⌜ r ≡ record { good = good; at = at; table = table } ⌝ }
     {
-        let table = Table::fresh();
         TableRead {
-            good: false,
+            good: good,
             at: at,
             table: table,
         }
     }
 
-    // Checks a table and finds its names, in one pass.
-    pub fn read(table: &[u8]) -> TableRead
-        ensures { λ r. ⌜ shown (now (table .entry)) r ≡ checkTable (now (table .entry)) ⌝ }
+    fn refused(at: usize) -> TableRead
+        ensures { λ r. ⌜ r ≡ record { good = false; at = at; table = empty } ⌝ }
     {
-        if Table::OCTETS < table.len() {
-            return Table::refused(Table::OCTETS);
-        }
+        Table::given(false, at, Table::fresh())
+    }
+
+    // Takes the entries of a table in order, up to one that breaks a rule: the names before that one are left in the table given.
+    fn scan(table: &[u8]) -> TableRead
+        requires { ⌜ length (now table) ≤ longestTable ⌝ }
+        ensures { λ r. ⌜ settled r ≡ tableRead (now (table .entry)) ⌝ }
+    {
         let mut t = Table::fresh();
         let mut records: usize = 0;
         let mut at: usize = 0;
         while at < table.len() {
             let rest = octets::part(table, at, table.len());
-            let len = octets::little(rest, 0) as usize;
-            let form = form_at(rest, t.names, records);
+            let len = whole_length(rest);
+            if len == 0 {
+                break;
+            }
+            let kind = octets::little(rest, 2);
+            let body = octets::part(rest, Table::HEAD, len);
+            let form = form_by(kind_of(kind), t.names, records, body);
             match form {
                 Form::Name => {
-                    let found = t.find(table, octets::part(rest, Table::HEAD, len));
+                    let n = t.names;
+                    t.kinds[n] = kind;
+                    t.starts[n] = (at + Table::HEAD) as u16;
+                    t.ends[n] = (at + len) as u16;
+                    let found = find_among(table, &t.starts, &t.ends, n, body);
                     if let Found::At(_) = found {
-                        return Table::refused(at);
+                        break;
                     }
-                    t = t.with_name(octets::little(rest, 2), at + Table::HEAD, at + len);
+                    t.names = n + 1;
                     records = 0;
                 }
-                Form::Record => {
-                    records = records + 1;
-                }
-                Form::Bad => {
-                    return Table::refused(at);
-                }
+                Form::Record => records = records + 1,
+                Form::Bad => break,
             }
             at = at + len;
         }
-        TableRead {
-            good: true,
-            at: at,
-            table: t,
+        Table::given(at == table.len(), at, t)
+    }
+
+    // Checks a table and finds its names, in one pass.
+    pub fn read(table: &[u8]) -> TableRead
+        ensures { λ r. ⌜ r ≡ tableRead (now (table .entry)) ⌝ }
+    {
+        if Table::OCTETS < table.len() {
+            return Table::refused(Table::OCTETS);
         }
+        let mut r = Table::scan(table);
+        if r.good {
+            r.at = 0;
+        } else {
+            r.table = Table::fresh();
+        }
+        r
     }
 }
 
@@ -336,12 +361,12 @@ pub fn record_at(table: &[u8], at: usize) -> RecordRead
     ensures { λ r. ⌜ r ≡ recordAt (now (table .entry)) at ⌝ }
 {
     let rest = octets::part(table, at, table.len());
-    if is_whole(rest) {
-        let len = octets::little(rest, 0) as usize;
-        let kind = kind_of(octets::little(rest, 2));
-        return record_by(kind, at + Table::HEAD, at + len);
+    let len = whole_length(rest);
+    if len == 0 {
+        return RecordRead::End;
     }
-    RecordRead::End
+    let kind = kind_of(octets::little(rest, 2));
+    record_by(kind, at + Table::HEAD, at + len)
 }
 
 // How many records a name has, whose octets end at an offset.

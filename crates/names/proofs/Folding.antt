@@ -2,18 +2,19 @@
 use Prim.Native.Nat.{ℕ, _+_, _<_, _≤_}
 use mathlib.Core.Path.{_≡_, refl, sym, ap, _∙_}
 use mathlib.Core.List.{List, [], _∷_, _++_, map, map-append}
-use mathlib.Core.Bool.{true, false, cond}
-use mathlib.Core.Logic.{_↔_, _⊎_, inl, inr}
+use mathlib.Core.Bool.{true, false}
+use mathlib.Core.Logic.{_↔_, Iff·trans, Iff·and, _⊎_, inl, inr}
 use native.Mathlib.Omega.{arith}
-use lib.Dec.{leb, eqb}
+use lib.Dec.{leb}
 use lib.ListN.{length, drop, length-map, drop-of-length-le}
-use borrow.Author.Tests.{eq-eqb, ne-eqb, le-leb, lt-leb, eqb-true, eqb-false, leb-true, leb-false}
+use borrow.Author.Tests.{eq-eqb, ne-eqb, le-leb, lt-leb, leb-true, leb-false}
 use Rattle.octets.specs.Octets.{Octets, octetAt}
-use Rattle.octets.proofs.Tests.{split}
+use Rattle.octets.proofs.Octets.{joined}
+use Rattle.octets.proofs.Tests.{split, both, same-number}
 use Rattle.names.specs.Names.{Labels, AreLabels, encode, IsName}
 use Rattle.names.specs.Folding.{folded, foldedName, sameName}
 use Rattle.names.proofs.Lists.{from-here}
-use Rattle.names.proofs.Names.{encode-one}
+use Rattle.names.proofs.Names.{same-labels}
 
 -- The letters A to Z.
 pub record IsUpper (c : ℕ) : Type 0 where
@@ -72,28 +73,10 @@ folded-octet c h = go (letter c)
 -- Two lists are the same exactly if they are equal when folded.
 pub same-name-is : (a b : List ℕ) → (sameName a b ≡ true) ↔ (map folded a ≡ map folded b)
 unfolding sameName
-same-name-is [] [] = (λ h. refl, λ h. refl)
-same-name-is [] (y ∷ b) = (
-  λ h. absurd (let z : _≡_ {A = ℕ} 0 1 = cc in omega arith),
-  λ h. absurd (let z : _≡_ {A = ℕ} 0 1 = cc in omega arith),
-)
-same-name-is (x ∷ a) [] = (
-  λ h. absurd (let z : _≡_ {A = ℕ} 0 1 = cc in omega arith),
-  λ h. absurd (let z : _≡_ {A = ℕ} 0 1 = cc in omega arith),
-)
-same-name-is (x ∷ a) (y ∷ b) = go (same-name-is a b)
-  where
-    go : (sameName a b ≡ true) ↔ (map folded a ≡ map folded b)
-        → (cond (eqb (folded x) (folded y)) (sameName a b) false ≡ true) ↔ (map folded (x ∷ a) ≡ map folded (y ∷ b))
-    go r =
-        split
-        (eqb (folded x) (folded y))
-        (λ f.
-        let c : folded x ≡ folded y = eqb-true _ _ f in
-        rw f (λ h. let i : map folded a ≡ map folded b = r .0 h in cc, λ h. r .1 (cc)))
-        (λ f.
-        let c : folded x ≡ folded y → ⊥ = eqb-false _ _ f in
-        rw f (λ h. absurd (let z : _≡_ {A = ℕ} 0 1 = cc in omega arith), λ h. absurd (c (cc))))
+same-name-is [] [] = (λ e. refl, λ e. refl)
+same-name-is [] (y ∷ b) = (λ e. cc, λ e. cc)
+same-name-is (x ∷ a) [] = (λ e. cc, λ e. cc)
+same-name-is (x ∷ a) (y ∷ b) = Iff·trans (both _ _) (Iff·trans (Iff·and (same-number _ _) (same-name-is a b)) joined)
 
 -- Lists of unequal length are never the same.
 pub same-lengths : (a b : List ℕ) → sameName a b ≡ true → length a ≡ length b
@@ -136,14 +119,7 @@ same-names n m a b = (to, from)
     to e =
         let f : encode (foldedName n) ≡ encode (foldedName m) =
         sym (folded-encode n (a .labels)) ∙ same-name-is (encode n) (encode m) .0 e ∙ folded-encode m (b .labels) in
-        encode-one
-        (foldedName n)
-        (foldedName m)
-        []
-        []
-        (folded-labels n (a .labels))
-        (folded-labels m (b .labels))
-        (ap (λ (r : List ℕ). r ++ []) f)
+        same-labels (foldedName n) (foldedName m) (folded-labels n (a .labels)) (folded-labels m (b .labels)) f
 
     from : foldedName n ≡ foldedName m → sameName (encode n) (encode m) ≡ true
     from e =

@@ -5,3 +5,4 @@ pub mod Expansion
 pub mod Names
 pub mod Folding
 pub mod Readings
+pub mod Plain

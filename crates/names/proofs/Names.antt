@@ -2,12 +2,13 @@
 use Prim.Native.Nat.{ℕ, suc, zero, _+_, _<_, _≤_, min}
 use mathlib.Core.Path.{_≡_, refl, sym, ap, _∙_, subst}
 use mathlib.Core.List.{List, [], _∷_, _++_, append-assoc}
-use mathlib.Core.Logic.{_↔_}
+use mathlib.Core.Logic.{_↔_, _⊎_, inl, inr}
 use native.Mathlib.Omega.{arith}
 use lib.ListN.{length, take, drop, length-append, length-drop, length-take, take-append-drop}
 use lib.Seq.{take-at, drop-at, drop-drop, length-take-le}
 use Rattle.octets.specs.Octets.{Octets, octetAt}
-use Rattle.octets.proofs.Octets.{octets-drop, octets-take}
+use Rattle.octets.proofs.Octets.{octets-append, octets-drop, octets-take}
+use Rattle.octets.proofs.Readers.{finds-none}
 use Rattle.names.specs.Bounds.{longestLabel, longestName}
 use Rattle.names.specs.Names.{Labels, AreLabels, encode, IsName, NameAt}
 use Rattle.names.specs.declared.Name.{Name}
@@ -26,6 +27,14 @@ pub encode-labels : (n : Labels) → AreLabels n → length n + length n + 1 ≤
 encode-labels [] a = omega arith
 encode-labels (l ∷ n) a = omega (arith, a .0 .some, encode-labels n (a .1), length-append l (encode n))
 
+-- the octets of a name are octets
+labels-octets : (n : Labels) → AreLabels n → Octets (encode n)
+labels-octets [] a = (omega arith, tt)
+labels-octets (l ∷ n) a = (omega (arith, a .0 .short), octets-append l (encode n) (a .0 .octets) (labels-octets n (a .1)))
+
+pub encode-octets : (n : Labels) → IsName n → Octets (encode n)
+encode-octets n a = labels-octets n (a .labels)
+
 -- no name's octets begin another's
 pub encode-one : (n m : Labels) (t u : List ℕ) → AreLabels n → AreLabels m → encode n ++ t ≡ encode m ++ u → n ≡ m
 encode-one [] [] t u a b e = refl
@@ -43,6 +52,10 @@ encode-one (l ∷ n) (k ∷ m) t u a b e =
     let w = same-run l k (encode n ++ t) (encode m ++ u) z q in
     let v : n ≡ m = encode-one n m t u (a .1) (b .1) (w .1) in
     cc
+
+-- two names with the same octets have the same labels
+pub same-labels : (n m : Labels) → AreLabels n → AreLabels m → encode n ≡ encode m → n ≡ m
+same-labels n m a b e = encode-one n m [] [] a b (ap (λ (u : List ℕ). u ++ []) e)
 
 -- a name that begins at p, after n octets of the whole
 record Found (s : List ℕ) (p n len : ℕ) : Type 0 where
@@ -162,17 +175,11 @@ reads-a-name s at len o = (to, from)
 
 -- The reader finds none exactly if no name stands there: its turns never run out.
 pub reads-none : (s : List ℕ) (at : ℕ) → Octets s → (nameAt s at ≡ Bad) ↔ ((len : ℕ) → NameAt s at len → ⊥)
-reads-none s at o = (
-  λ e len f.
-      let g : nameAt s at ≡ Good (record { len = len }) = reads-a-name s at len o .1 f in
-      let z : _≡_ {A = ℕ} 0 1 = cc in
-      omega arith,
-  λ h. go (nameAt s at) refl h,
-)
+reads-none s at o = finds-none (λ len. reads-a-name s at len o) (λ len e. let z : _≡_ {A = ℕ} 0 1 = cc in omega arith) (either (nameAt s at))
   where
-    go : (r : NameRead) → nameAt s at ≡ r → ((len : ℕ) → NameAt s at len → ⊥) → nameAt s at ≡ Bad
-    go (Good r) e h = absurd (h (r .len) (reads-a-name s at (r .len) o .0 e))
-    go Bad e h = e
+    either : (r : NameRead) → ((len : ℕ) × (r ≡ Good (record { len = len }))) ⊎ (r ≡ Bad)
+    either (Good r) = inl (r .len, refl)
+    either Bad = inr refl
 
 -- At most one name stands at an offset.
 pub one-name : (s : List ℕ) (at m n : ℕ) (a : NameAt s at m) (b : NameAt s at n) → a .name ≡ b .name

@@ -1,16 +1,17 @@
 -- What the reader of a record's name means, in the plain words of specs/Readings.antt.
 use Prim.Native.Nat.{ℕ, suc, zero, _+_, _-_, _<_, _≤_}
 use mathlib.Core.Path.{_≡_, refl, sym, ap, _∙_, subst}
-use mathlib.Core.List.{List, [], _∷_, _++_, append-assoc, map}
-use mathlib.Core.Logic.{_↔_}
+use mathlib.Core.List.{List, [], _∷_}
+use mathlib.Core.Logic.{_↔_, _⊎_, inl, inr}
 use native.Mathlib.Omega.{arith}
 use lib.ListN.{length, take, drop, length-append, length-drop}
-use lib.Seq.{take-at, length-take-le}
+use lib.Seq.{length-take-le}
 use borrow.Author.Tests.{ne-eqb}
 use Rattle.octets.specs.Octets.{Octets, octetAt, partOf}
 use Rattle.octets.proofs.Octets.{octets-drop, octets-take, octet-at, part-in}
+use Rattle.octets.proofs.Readers.{finds-none}
 use Rattle.names.specs.Bounds.{longestLabel, longestName, mostPointers, leastTarget, pointerMark}
-use Rattle.names.specs.Names.{Labels, AreLabels, encode, IsName, Stand, NameAt}
+use Rattle.names.specs.Names.{AreLabels, encode, IsName, Stand}
 use Rattle.names.specs.Readings.{Step, label, pointer, IsPointer, Reads, labels, pointers, after, ReadingAt}
 use Rattle.names.specs.declared.Walk.{Walk}
 use Rattle.names.specs.declared.Turn.the-variants.{More}
@@ -18,7 +19,7 @@ use Rattle.names.specs.declared.RecordName.{RecordName}
 use Rattle.names.specs.declared.RecordNameRead.{RecordNameRead}
 use Rattle.names.specs.declared.RecordNameRead.the-variants.{Good, Bad}
 use Rattle.names.specs.RecordNameWalk.{target, goesOn, atRoot, pastLabel, followed, turnAt, recordNameFrom, walkAt, turns, recordNameAt, expandedFrom, expandedAt}
-use Rattle.names.proofs.Lists.{stand-drop, from-here, there, here, behind, past}
+use Rattle.names.proofs.Lists.{stand-drop, from-here, there, here}
 use Rattle.names.proofs.RecordNameWalk.{Met, root, one, jump, wrong, met, turn-root, turn-label, turn-jump, Within, within-start, record-name-fits}
 use Rattle.names.proofs.Expansion.{expands-good}
 use Rattle.names.proofs.Names.{encode-some, encode-labels}
@@ -286,17 +287,11 @@ reads-a-reading s at r o = (to-reading, from-reading)
 
 -- The reader gives up exactly if there is no reading: its turns never run out.
 pub reads-no-reading : (s : List ℕ) (at : ℕ) → Octets s → (recordNameAt s at ≡ Bad) ↔ ((r : RecordName) → ReadingAt s at r → ⊥)
-reads-no-reading s at o = (
-  λ e r f.
-      let g : recordNameAt s at ≡ Good r = reads-a-reading s at r o .1 f in
-      let z : _≡_ {A = ℕ} 0 1 = cc in
-      omega arith,
-  λ h. go (recordNameAt s at) refl h,
-)
+reads-no-reading s at o = finds-none (λ r. reads-a-reading s at r o) (λ r e. let z : _≡_ {A = ℕ} 0 1 = cc in omega arith) (either (recordNameAt s at))
   where
-    go : (x : RecordNameRead) → recordNameAt s at ≡ x → ((r : RecordName) → ReadingAt s at r → ⊥) → recordNameAt s at ≡ Bad
-    go (Good r) e h = absurd (h r (reads-a-reading s at r o .0 e))
-    go Bad e h = e
+    either : (x : RecordNameRead) → ((r : RecordName) × (x ≡ Good r)) ⊎ (x ≡ Bad)
+    either (Good r) = inl (r, refl)
+    either Bad = inr refl
 
 one-reading : (s : List ℕ) (p run : ℕ) (a b : List Step) → Octets s → Reads s p run a → Reads s p run b → a ≡ b
 one-reading s p run [] [] o x y = refl
@@ -329,46 +324,6 @@ one-reading-at s at q r o a b = one-reading s at at (a .steps) (b .steps) o (a .
 pub reading-is-name : (s : List ℕ) (at : ℕ) (r : RecordName) (f : ReadingAt s at r) → IsName (labels (f .steps))
 reading-is-name s at r f =
     record { labels = reads-labels s at at (f .steps) (f .reads); short = omega (arith, f .short, f .len-is) }
-
--- a name's labels, each a step
-plain-steps : (n : Labels) (s : List ℕ) (p run : ℕ) (rest : List ℕ) → AreLabels n → drop p s ≡ encode n ++ rest → Reads s p run (map label n)
-plain-steps [] s p run rest a e = ap (take 1) e
-plain-steps (l ∷ n) s p run rest a e =
-    let q : drop p s ≡ length l ∷ (l ++ (encode n ++ rest)) =
-    e ∙ ap (λ (t : List ℕ). length l ∷ t) (append-assoc l (encode n) rest) in
-    let st : take (suc (length l)) (drop p s) ≡ length l ∷ l =
-    ap (take (suc (length l))) q ∙ ap (λ (t : List ℕ). length l ∷ t) (take-at l (encode n ++ rest) (length l) refl) in
-    let b : drop (p + 1) s ≡ l ++ (encode n ++ rest) = behind s p (length l) (l ++ (encode n ++ rest)) q in
-    (a .0, st, plain-steps n s (p + 1 + length l) run rest (a .1) (past s (p + 1) l (encode n ++ rest) b))
-
-plain-labels : (n : Labels) → labels (map label n) ≡ n
-plain-labels [] = refl
-plain-labels (l ∷ n) = ap (λ (t : Labels). l ∷ t) (plain-labels n)
-
-plain-pointers : (n : Labels) → pointers (map label n) ≡ 0
-plain-pointers [] = refl
-plain-pointers (l ∷ n) = plain-pointers n
-
-plain-after : (n : Labels) (p : ℕ) → after p (map label n) ≡ p + length (encode n)
-plain-after [] p = refl
-plain-after (l ∷ n) p = plain-after n (p + 1 + length l) ∙ omega (arith, length-append l (encode n))
-
--- The two readers agree: a name without pointers is a reading with none.
-pub plain-is-packed : (s : List ℕ) (at len : ℕ) → Octets s → NameAt s at len
-    → recordNameAt s at ≡ Good (record { next = at + len; len = len; pointers = 0 })
-plain-is-packed s at len o f =
-    let n : Labels = f .name in
-    let h : len ≤ longestName = omega (arith, f .len-is, f .is-name .short) in
-    reads-a-reading s at (record { next = at + len; len = len; pointers = 0 }) o .1
-    (record {
-      steps = map label n;
-      reads = plain-steps n s at at (drop (length (encode n)) (drop at s)) (f .is-name .labels) (stand-drop s at (encode n) (f .octets));
-      next-is = omega (arith, plain-after n at, f .len-is);
-      len-is = f .len-is ∙ ap (λ (m : Labels). length (encode m)) (sym (plain-labels n));
-      pointers-are = sym (plain-pointers n);
-      short = h;
-      few = omega arith;
-    })
 
 -- the octets that a turn adds: a label's with its length, or none
 label-part : (s : List ℕ) (w : Walk) (l : List ℕ) (c : ℕ) → Stand s (w .at) (length l ∷ l) → c ≡ length l → w .at + 1 + c ≤ length s

@@ -105,42 +105,36 @@ onward s w v b e = go (met s w)
         f
         (record { inside = omega arith; longer = omega arith; within = record { short = b .short; few = omega arith }; nearer = omega arith })
 
--- Fuel for what is left is enough: any more gives the same.
-pub walk-fuel : (j k : ℕ) (s : List ℕ) (w : Walk) → Within w → left w ≤ j → left w ≤ k
-    → recordNameFrom j s w ≡ recordNameFrom k s w
-unfolding recordNameFrom
-walk-fuel zero k s w b x y = absurd (omega (arith, b .short))
-walk-fuel (suc j) zero s w b x y = absurd (omega (arith, b .short))
-walk-fuel (suc j) (suc k) s w b x y = go (turnAt s w) refl (λ v. walk-fuel j k s v)
-  where
-    go : (t : Turn)
-        → turnAt s w ≡ t
-        → ((v : Walk) → Within v → left v ≤ j → left v ≤ k → recordNameFrom j s v ≡ recordNameFrom k s v)
-        → onTurn t (recordNameFrom j s) ≡ onTurn t (recordNameFrom k s)
-    go (More v) e r =
-        let o = onward s w v b e in
-        let n : left v < left w = o .nearer in
-        r v (o .within) (omega arith) (omega arith)
-    go (End u) e r = refl
-    go Wrong e r = refl
+-- What a walk gives: `on` makes it of a turn and of what the walk gives where the turn goes on.
+module _ {A : Type 0} (from : ℕ → List ℕ → Walk → A) (on : List ℕ → Walk → Turn → (Walk → A) → A)
+    (step : (k : ℕ) (s : List ℕ) (w : Walk) → from (suc k) s w ≡ on s w (turnAt s w) (from k s))
+    (same : (s : List ℕ) (w : Walk) (t : Turn) (f g : Walk → A) → ((v : Walk) → t ≡ More v → f v ≡ g v) → on s w t f ≡ on s w t g) where
+  -- Fuel for what is left is enough: any more gives the same.
+  fuel : (j k : ℕ) (s : List ℕ) (w : Walk) → Within w → left w ≤ j → left w ≤ k → from j s w ≡ from k s w
+  fuel zero k s w b x y = absurd (omega (arith, b .short))
+  fuel (suc j) zero s w b x y = absurd (omega (arith, b .short))
+  fuel (suc j) (suc k) s w b x y =
+      step j s w
+      ∙ same s w (turnAt s w) (from j s) (from k s)
+      (λ v e.
+      let o = onward s w v b e in
+      let n : left v < left w = o .nearer in
+      fuel j k s v (o .within) (omega arith) (omega arith))
+      ∙ sym (step k s w)
 
-pub expand-fuel : (j k : ℕ) (s : List ℕ) (w : Walk) → Within w → left w ≤ j → left w ≤ k
-    → expandedFrom j s w ≡ expandedFrom k s w
-unfolding expandedFrom
-expand-fuel zero k s w b x y = absurd (omega (arith, b .short))
-expand-fuel (suc j) zero s w b x y = absurd (omega (arith, b .short))
-expand-fuel (suc j) (suc k) s w b x y = go (turnAt s w) refl (λ v. expand-fuel j k s v)
-  where
-    go : (t : Turn)
-        → turnAt s w ≡ t
-        → ((v : Walk) → Within v → left v ≤ j → left v ≤ k → expandedFrom j s v ≡ expandedFrom k s v)
-        → onExpand s w t (expandedFrom j s) ≡ onExpand s w t (expandedFrom k s)
-    go (More v) e r =
-        let o = onward s w v b e in
-        let n : left v < left w = o .nearer in
-        ap (λ (l : List ℕ). partOf s (w .at) (w .at + (v .len - w .len)) ++ l) (r v (o .within) (omega arith) (omega arith))
-    go (End u) e r = refl
-    go Wrong e r = refl
+  -- a turn, each walk with just enough fuel
+  turned : (s : List ℕ) (w : Walk) → Within w → from (left w) s w ≡ on s w (turnAt s w) (λ v. from (left v) s v)
+  turned s w b = go (left w - 1) (omega (arith, b .short))
+    where
+      go : (m : ℕ) → left w ≡ suc m → from (left w) s w ≡ on s w (turnAt s w) (λ v. from (left v) s v)
+      go m q =
+          ap (λ (k : ℕ). from k s w) q
+          ∙ step m s w
+          ∙ same s w (turnAt s w) (from m s) (λ v. from (left v) s v)
+          (λ v e.
+          let o = onward s w v b e in
+          let n : left v < left w = o .nearer in
+          fuel m (left v) s v (o .within) (omega arith) (omega arith))
 
 -- the two walks from w on, with just enough fuel
 abbrev pub recordNameHere : List ℕ → Walk → RecordNameRead
@@ -158,46 +152,43 @@ pub expand-start : (s : List ℕ) (at : ℕ) (w : Walk) → w ≡ walkAt at → 
 expand-start s at w e = subst (λ (v : Walk). expandedFrom turns s (walkAt at) ≡ expandedHere s v) (sym e) refl
 
 -- their turns
+walk-turn : (s : List ℕ) (w : Walk) → Within w → recordNameHere s w ≡ onTurn (turnAt s w) (λ v. recordNameHere s v)
+unfolding recordNameFrom
+walk-turn = turned recordNameFrom (λ s w t f. onTurn t f) (λ k s w. refl) same
+  where
+    same : (s : List ℕ) (w : Walk) (t : Turn) (f g : Walk → RecordNameRead) → ((v : Walk) → t ≡ More v → f v ≡ g v) → onTurn t f ≡ onTurn t g
+    same s w (More v) f g h = h v refl
+    same s w (End r) f g h = refl
+    same s w Wrong f g h = refl
+
+expand-turn : (s : List ℕ) (w : Walk) → Within w → expandedHere s w ≡ onExpand s w (turnAt s w) (λ v. expandedHere s v)
+unfolding expandedFrom
+expand-turn = turned expandedFrom onExpand (λ k s w. refl) same
+  where
+    same : (s : List ℕ) (w : Walk) (t : Turn) (f g : Walk → List ℕ) → ((v : Walk) → t ≡ More v → f v ≡ g v) → onExpand s w t f ≡ onExpand s w t g
+    same s w (More v) f g h = ap (λ (l : List ℕ). partOf s (w .at) (w .at + (v .len - w .len)) ++ l) (h v refl)
+    same s w (End r) f g h = refl
+    same s w Wrong f g h = refl
+
 module _ (s : List ℕ) (w : Walk) (b : Within w) where
-  turned : recordNameHere s w ≡ onTurn (turnAt s w) (recordNameFrom (left w - 1) s)
-  unfolding recordNameFrom
-  turned = go (left w - 1) (omega (arith, b .short))
-    where
-      go : (m : ℕ) → left w ≡ suc m → recordNameFrom (left w) s w ≡ onTurn (turnAt s w) (recordNameFrom m s)
-      go m e = rw e
-
-  expanded : expandedHere s w ≡ onExpand s w (turnAt s w) (expandedFrom (left w - 1) s)
-  unfolding expandedFrom
-  expanded = go (left w - 1) (omega (arith, b .short))
-    where
-      go : (m : ℕ) → left w ≡ suc m → expandedFrom (left w) s w ≡ onExpand s w (turnAt s w) (expandedFrom m s)
-      go m e = rw e
-
   pub walk-more : (v : Walk) → turnAt s w ≡ More v → recordNameHere s w ≡ recordNameHere s v
-  walk-more v e =
-      let o = onward s w v b e in
-      let n : left v < left w = o .nearer in
-      turned ∙ rw e (walk-fuel _ _ s v (o .within) (omega arith) (omega arith))
+  walk-more v e = walk-turn s w b ∙ rw e
 
   pub walk-end : (r : RecordName) → turnAt s w ≡ End r → recordNameHere s w ≡ Good r
-  walk-end r e = turned ∙ rw e
+  walk-end r e = walk-turn s w b ∙ rw e
 
   pub walk-wrong : turnAt s w ≡ Wrong → recordNameHere s w ≡ Bad
-  walk-wrong e = turned ∙ rw e
+  walk-wrong e = walk-turn s w b ∙ rw e
 
   pub expand-more : (v : Walk) → turnAt s w ≡ More v
       → expandedHere s w ≡ partOf s (w .at) (w .at + (v .len - w .len)) ++ expandedHere s v
-  expand-more v e =
-      let o = onward s w v b e in
-      let n : left v < left w = o .nearer in
-      expanded
-      ∙ rw e (ap (λ (l : List ℕ). partOf s (w .at) (w .at + (v .len - w .len)) ++ l) (expand-fuel _ _ s v (o .within) (omega arith) (omega arith)))
+  expand-more v e = expand-turn s w b ∙ rw e
 
   pub expand-end : (r : RecordName) → turnAt s w ≡ End r → expandedHere s w ≡ 0 ∷ []
-  expand-end r e = expanded ∙ rw e
+  expand-end r e = expand-turn s w b ∙ rw e
 
   pub expand-wrong : turnAt s w ≡ Wrong → expandedHere s w ≡ []
-  expand-wrong e = expanded ∙ rw e
+  expand-wrong e = expand-turn s w b ∙ rw e
 
 -- What a good end says of a walk: it stands inside s, and so does the offset after the name; the bounds are kept; the octets of the
 -- expanded name are as many as it tells.

@@ -3,10 +3,11 @@ use Prim.Native.Nat.{ℕ, _+_}
 use mathlib.Core.List.{List, [], _∷_, map}
 use mathlib.Core.Bool.{Bool, true, false, cond}
 use lib.Dec.{leb, eqb}
+use Rattle.octets.specs.Tests.{_and_}
 use Rattle.names.specs.Names.{Labels}
 
 unfoldable pub folded : ℕ → ℕ
-folded c = cond (leb 65 c) (cond (leb c 90) (c + 32) c) c
+folded c = cond (leb 65 c and leb c 90) (c + 32) c
 
 -- a name with every octet of its labels folded
 abbrev pub foldedName : Labels → Labels
@@ -17,4 +18,4 @@ unfoldable pub sameName : List ℕ → List ℕ → Bool
 sameName [] [] = true
 sameName [] (y ∷ b) = false
 sameName (x ∷ a) [] = false
-sameName (x ∷ a) (y ∷ b) = cond (eqb (folded x) (folded y)) (sameName a b) false
+sameName (x ∷ a) (y ∷ b) = eqb (folded x) (folded y) and sameName a b

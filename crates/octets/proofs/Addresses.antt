@@ -3,39 +3,28 @@ use Prim.Native.Nat.{ℕ, suc, zero, _<_, _≤_}
 use mathlib.Core.Path.{_≡_, refl, sym, _∙_, subst}
 use mathlib.Core.List.{List, [], _∷_}
 use mathlib.Core.Bool.{true, false}
-use mathlib.Core.Logic.{_↔_, _⊎_, inl, inr, ⊎-elim, Iff·trans, Iff·and}
+use mathlib.Core.Logic.{_↔_, _⊎_, inl, inr, ⊎-elim, Iff·rfl, Iff·trans, Iff·and}
 use native.Mathlib.Omega.{arith}
 use lib.ListN.{length, getD, take, length-take}
 use lib.Seq.{take-all}
 use lib.Dec.{ltb, eqb}
-use borrow.Author.Tests.{eq-eqb, ne-eqb, lt-ltb, le-ltb, ltb-true, ltb-false, eqb-true, eqb-false}
-use Rattle.octets.proofs.Tests.{split, both, either, never, same-number}
-use Rattle.octets.specs.Bounds.{interfaces}
+use borrow.Author.Tests.{eq-eqb, ne-eqb, ltb-true, ltb-false, eqb-true, eqb-false}
+use Rattle.octets.proofs.Octets.{joined}
+use Rattle.octets.proofs.Tests.{split, both, either, either-way, never, same-number, below-number}
+use Rattle.octets.specs.Bounds.{ipv4, usedBy6, interfaces}
 use Rattle.octets.specs.declared.Address.{Address}
 use Rattle.octets.specs.declared.Setting.{Setting}
 use Rattle.octets.specs.Addresses.{Below, isFamily, usedOctets, sameOctets, belowOctets, sameAddress, belowAddress, group6, groupOf, isGroup, groupEndpoint, hasAddress, unused, oursAmong, isOurs}
 
 -- ---- the same
 
-same-itself : (x : List ℕ) → sameOctets x x ≡ true
-unfolding sameOctets
-same-itself [] = refl
-same-itself (c ∷ x) = rw (eq-eqb c c refl) (same-itself x)
-
-equal : (x y : List ℕ) → sameOctets x y ≡ true → x ≡ y
-unfolding sameOctets
-equal [] [] e = refl
-equal [] (d ∷ y) e = cc
-equal (c ∷ x) [] e = cc
-equal (c ∷ x) (d ∷ y) e =
-    let t = both (eqb c d) (sameOctets x y) .0 e in
-    let p : c ≡ d = eqb-true c d (t .0) in
-    let q : x ≡ y = equal x y (t .1) in
-    cc
-
 -- the same octets are equal lists
 pub same-octets : (x y : List ℕ) → (sameOctets x y ≡ true) ↔ (x ≡ y)
-same-octets x y = (equal x y, λ e. subst (λ (z : List ℕ). sameOctets x z ≡ true) e (same-itself x))
+unfolding sameOctets
+same-octets [] [] = (λ e. refl, λ e. refl)
+same-octets [] (d ∷ y) = (λ e. cc, λ e. cc)
+same-octets (c ∷ x) [] = (λ e. cc, λ e. cc)
+same-octets (c ∷ x) (d ∷ y) = Iff·trans (both _ _) (Iff·trans (Iff·and (same-number c d) (same-octets x y)) joined)
 
 -- two addresses are the same if their families are, and the octets that the family uses
 pub same-address : (a b : Address) → (sameAddress a b ≡ true) ↔ ((a .family ≡ b .family) × (usedOctets a ≡ usedOctets b))
@@ -47,18 +36,8 @@ same-address a b = Iff·trans (both _ _) (Iff·and (same-number _ _) (same-octet
 -- the first octets decide, or are equal and leave it to the rest
 pub below-first : (c d : ℕ) (x y : List ℕ) → (belowOctets (c ∷ x) (d ∷ y) ≡ true) ↔ ((c < d) ⊎ ((c ≡ d) × (belowOctets x y ≡ true)))
 unfolding belowOctets
-below-first c d x y = (
-  λ e. split
-      (ltb c d)
-      (λ t. inl (ltb-true c d t))
-      (λ t. split
-      (ltb d c)
-      (λ u. never refl (sym (rw (t, u) at e)))
-      (λ u. let p = ltb-false c d t in let q = ltb-false d c u in inr (omega arith, rw (t, u) at e))),
-  ⊎-elim
-      (λ h. rw (lt-ltb c d h))
-      (λ t. let p : d ≤ c = omega (arith, t .0) in let q : c ≤ d = omega (arith, t .0) in rw (le-ltb c d p, le-ltb d c q) (t .1)),
-)
+below-first c d x y =
+    Iff·trans (either _ _) (either-way (below-number c d) (Iff·trans (both _ _) (Iff·and (same-number c d) Iff·rfl)))
 
 below-there : (x y : List ℕ) → belowOctets x y ≡ true → Below x y
 unfolding belowOctets
@@ -176,16 +155,16 @@ group-used a t = (
 -- 224.0.0.252
 pub group-4 : (a : Address) → a .family ≡ 4 → (isGroup a ≡ true) ↔ (take 4 (a .octets) ≡ 224 ∷ 0 ∷ 0 ∷ 252 ∷ [])
 unfolding groupOf
-group-4 a e = let p : eqb (a .family) 4 ≡ true = eq-eqb _ _ e in rw p at (group-used a (rw p))
+group-4 a e = let p : eqb (a .family) ipv4 ≡ true = eq-eqb _ _ e in rw p at (group-used a (rw p))
 
 -- FF02::1:3
 pub group-6 : (a : Address) → a .family ≡ 6 → length (a .octets) ≡ 16 → (isGroup a ≡ true) ↔ (a .octets ≡ group6)
 unfolding groupOf
 group-6 a e l =
-    let n : a .family ≡ 4 → ⊥ = λ f. omega arith in
-    let p : eqb (a .family) 4 ≡ false = ne-eqb _ _ n in
-    let h : length (a .octets) ≤ 16 = omega arith in
-    rw (p, take-all 16 (a .octets) h) at (group-used a (rw p (eq-eqb _ _ e)))
+    let n : a .family ≡ ipv4 → ⊥ = λ f. omega arith in
+    let p : eqb (a .family) ipv4 ≡ false = ne-eqb _ _ n in
+    let h : length (a .octets) ≤ usedBy6 = omega arith in
+    rw (p, take-all usedBy6 (a .octets) h) at (group-used a (rw p (eq-eqb _ _ e)))
 
 -- an address of no family is no group address
 pub group-other : (a : Address) → (a .family ≡ 4 → ⊥) → (a .family ≡ 6 → ⊥) → isGroup a ≡ false

@@ -1,5 +1,6 @@
 pub mod Tests
 pub mod Octets
+pub mod Readers
 pub mod Splice
 pub mod Words
 pub mod Addresses

@@ -3,6 +3,7 @@ use Prim.Native.Nat.{ℕ, suc, zero, _+_, _-_, _<_, _≤_}
 use mathlib.Core.Path.{_≡_, sym, ap, _∙_}
 use mathlib.Core.List.{List, [], _∷_, _++_}
 use mathlib.Core.Bool.{Bool, true, false}
+use mathlib.Core.Logic.{_↔_}
 use native.Mathlib.Omega.{arith}
 use lib.Dec.{ltb}
 use lib.ListN.{length, getD, take, drop, length-drop, drop-of-length-le}
@@ -18,6 +19,10 @@ module _ (size at n : ℕ) (r : Bool) (e : r ≡ runsPast size at n) where
 
   pub not-past : r ≡ false → at + n ≤ size
   not-past t = let u : runsPast size at n ≡ false = sym e ∙ t in omega (arith, ltb-false)
+
+-- two lists with a first are equal where the firsts and the rests are
+pub joined : {c d : ℕ} {x y : List ℕ} → ((c ≡ d) × (x ≡ y)) ↔ (c ∷ x ≡ d ∷ y)
+joined = (λ t. let p = t .0 in let q = t .1 in cc, λ e. (cc, cc))
 
 -- octets dropped, taken, joined
 pub octets-drop : (n : ℕ) (s : List ℕ) → Octets s → Octets (drop n s)

@@ -7,7 +7,7 @@ use native.Mathlib.Nat.{zero-add, add-assoc}
 use native.Mathlib.Numerals.{add-one}
 use lib.Dec.{ltb}
 use lib.ListN.{length, getD, take, drop, set, length-append, length-drop, List·getD-append}
-use lib.Seq.{sets-eq, paste, paste-suc, paste-zero, take-length, take-at, drop-at, drop-drop, take-all, drop-length, length-take-le, getD-drop, getD-take}
+use lib.Seq.{take-append-seam, sets-eq, paste, paste-suc, paste-zero, take-length, take-at, drop-at, drop-drop, take-all, drop-length, length-take-le, getD-drop, getD-take}
 use borrow.Rule.Slice.PartMut.{midOf, putMid}
 use borrow.Author.Tests.{lt-ltb, le-ltb, ltb-true, ltb-false}
 use Rattle.octets.proofs.Tests.{split, cond-same}
@@ -169,3 +169,7 @@ put-after out xs ys b base at a e h =
     let m : at + length ys ≤ length b = omega arith in
     let n : base + length xs + length ys ≤ length out = omega arith in
     put-in b at ys m ∙ rw (e, a) (splice-splice out base xs ys n)
+
+-- what was written at the front of a buffer with room for it
+pub front : (out xs : List ℕ) → length xs ≤ length out → take (length xs) (put out 0 xs) ≡ xs
+front out xs h = rw (put-in out 0 xs (omega arith), splice-start out xs, take-append-seam xs (drop (length xs) out))

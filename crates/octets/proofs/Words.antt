@@ -3,14 +3,18 @@ use Prim.Native.Nat.{ℕ, suc, _+_, _/_, _%_, _<_, _≤_}
 use mathlib.Core.Path.{_≡_, sym, _∙_}
 use mathlib.Core.List.{List, [], _∷_, _++_}
 use native.Mathlib.Omega.{arith}
-use native.Mathlib.Nat.{add-zero}
+use native.Mathlib.Nat.{add-zero, add-assoc}
 use native.Mathlib.Numerals.{add-one}
 use lib.ListN.{length, take, drop, List·getD-eq-default}
-use lib.Seq.{drop-cons}
+use lib.Seq.{drop-cons, getD-drop}
 use Rattle.octets.proofs.Octets.{octet-at}
 use Rattle.octets.proofs.Splice.{put-there}
 use Rattle.octets.specs.Octets.{Octets, octetAt, put}
 use Rattle.octets.specs.Words.{bigAt, littleAt, bigOctets, littleOctets}
+
+-- the word behind an offset
+pub big-drop : (s : List ℕ) (p k : ℕ) → bigAt s (p + k) ≡ bigAt (drop p s) k
+big-drop s p k = rw (add-assoc p k 1, getD-drop p s k 0, getD-drop p s (k + 1) 0)
 
 -- a word past the end
 module _ (s : List ℕ) (at : ℕ) (h : length s ≤ at) where

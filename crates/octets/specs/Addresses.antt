@@ -5,6 +5,7 @@ use mathlib.Core.List.{List, [], _∷_}
 use mathlib.Core.Bool.{Bool, true, false, cond}
 use lib.ListN.{getD, take, length}
 use lib.Dec.{ltb, eqb}
+use Rattle.octets.specs.Tests.{_and_, _or_}
 use Rattle.octets.specs.Bounds.{ipv4, ipv6, usedBy4, usedBy6, llmnrPort, interfaces}
 use Rattle.octets.specs.declared.Address.{Address}
 use Rattle.octets.specs.declared.Endpoint.{Endpoint}
@@ -12,7 +13,7 @@ use Rattle.octets.specs.declared.Setting.{Setting}
 
 -- any family other than 4 or 6 means an unused interface
 abbrev pub isFamily : ℕ → Bool
-isFamily family = cond (eqb family ipv4) true (eqb family ipv6)
+isFamily family = eqb family ipv4 or eqb family ipv6
 
 abbrev pub usedBy : ℕ → ℕ
 usedBy family = cond (eqb family ipv4) usedBy4 usedBy6
@@ -25,13 +26,13 @@ unfoldable pub sameOctets : List ℕ → List ℕ → Bool
 sameOctets [] [] = true
 sameOctets [] (y ∷ b) = false
 sameOctets (x ∷ a) [] = false
-sameOctets (x ∷ a) (y ∷ b) = cond (eqb x y) (sameOctets a b) false
+sameOctets (x ∷ a) (y ∷ b) = eqb x y and sameOctets a b
 
--- octet by octet, the first octet first
+-- octet by octet, the first octet first: it is less, or the same and the rest is below
 unfoldable pub belowOctets : List ℕ → List ℕ → Bool
 belowOctets [] b = false
 belowOctets (x ∷ a) [] = false
-belowOctets (x ∷ a) (y ∷ b) = cond (ltb x y) true (cond (ltb y x) false (belowOctets a b))
+belowOctets (x ∷ a) (y ∷ b) = ltb x y or eqb x y and belowOctets a b
 
 -- plainly: at the first octet in which they differ the one is less
 pub record Below (x y : List ℕ) : Type 0 where
@@ -43,10 +44,10 @@ pub record Below (x y : List ℕ) : Type 0 where
 
 -- addresses of two families are neither the same nor one below the other
 unfoldable pub sameAddress : Address → Address → Bool
-sameAddress a b = cond (eqb (a .family) (b .family)) (sameOctets (usedOctets a) (usedOctets b)) false
+sameAddress a b = eqb (a .family) (b .family) and sameOctets (usedOctets a) (usedOctets b)
 
 unfoldable pub belowAddress : Address → Address → Bool
-belowAddress a b = cond (eqb (a .family) (b .family)) (belowOctets (usedOctets a) (usedOctets b)) false
+belowAddress a b = eqb (a .family) (b .family) and belowOctets (usedOctets a) (usedOctets b)
 
 -- 224.0.0.252, in the first four octets, and FF02::1:3
 abbrev pub group4 : List ℕ
@@ -61,7 +62,7 @@ groupOf family = record { family = family; octets = cond (eqb family ipv4) group
 
 -- an address is the group address of its family, which is 4 or 6
 unfoldable pub isGroup : Address → Bool
-isGroup a = cond (isFamily (a .family)) (sameAddress a (groupOf (a .family))) false
+isGroup a = isFamily (a .family) and sameAddress a (groupOf (a .family))
 
 -- where a query goes: the family's group and LLMNR's port
 unfoldable pub groupEndpoint : ℕ → Endpoint
@@ -73,7 +74,7 @@ addressOf i = record { family = i .family; octets = i .address }
 
 -- a used interface has the address a
 unfoldable pub hasAddress : Setting → Address → Bool
-hasAddress i a = cond (isFamily (i .family)) (sameAddress a (addressOf i)) false
+hasAddress i a = isFamily (i .family) and sameAddress a (addressOf i)
 
 -- the zero value, which stands for an interface that is not there
 abbrev pub unused : Setting
@@ -82,7 +83,7 @@ unused = record { family = 0; address = []; interval = 0 }
 -- one of the first n interfaces has the address a
 unfoldable pub oursAmong : ℕ → List Setting → Address → Bool
 oursAmong zero settings a = false
-oursAmong (suc n) settings a = cond (hasAddress (getD settings n unused) a) true (oursAmong n settings a)
+oursAmong (suc n) settings a = hasAddress (getD settings n unused) a or oursAmong n settings a
 
 -- a is one of our addresses
 abbrev pub isOurs : List Setting → Address → Bool

@@ -1,4 +1,5 @@
 pub mod Bounds
+pub mod Tests
 pub mod Octets
 pub mod Words
 pub mod Addresses

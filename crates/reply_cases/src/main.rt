@@ -1,5 +1,7 @@
 // Writes replies to questions for scale3 from tables of many addresses, and prints how many octets and answers each has and
 // whether TC is set.
+ghost use Prim.Native.Nat.{_<_};
+ghost use lib.ListN.{length};
 use libc::STDOUT_FILENO;
 use message::HeaderRead;
 use message::ReplyHead;
@@ -12,26 +14,15 @@ fn number(n: usize) {
     io::print_decimal(STDOUT_FILENO, n as u64);
 }
 
-// Writes n entries with one AAAA record each, from an offset on.
-fn put_aaaa(table: &mut [u8], n: u8) {
+// Writes an entry of the table n times, one after another, from an offset on.
+fn put_entries(table: &mut [u8], from: u16, n: u8, entry: &[u8])
+    requires { ⌜ length (now entry) < 256 ⌝ }
+{
+    let mut at = from as usize;
     let mut i: u8 = 0;
     while i < n {
-        let at = 12 + (i as usize) * 20;
-        octets::put_octets(
-            table,
-            at,
-            b"\x14\x00\x04\x00\x20\x01\x0d\xb8\x00\x00\x00\x00\x00\x00\x00\x00\x00\x00\x00\x01",
-        );
-        i = i + 1;
-    }
-}
-
-// Writes n entries with one A record each, after so many AAAA records.
-fn put_a(table: &mut [u8], aaaa: u8, n: u8) {
-    let mut i: u8 = 0;
-    while i < n {
-        let at = 12 + (aaaa as usize) * 20 + (i as usize) * 8;
-        octets::put_octets(table, at, b"\x08\x00\x03\x00\xc0\x00\x02\x11");
+        octets::put_octets(table, at, entry);
+        at = at + entry.len();
         i = i + 1;
     }
 }
@@ -55,9 +46,15 @@ fn print_head(reply: &[u8]) {
 fn print_case(aaaa: u8, a: u8, question: &[u8], qtype: u16) {
     let mut table = [0u8; 1024];
     octets::put_octets(&mut table, 0, b"\x0c\x00\x01\x00\x06scale3\x00");
-    put_aaaa(&mut table, aaaa);
-    put_a(&mut table, aaaa, a);
-    let end = 12 + (aaaa as usize) * 20 + (a as usize) * 8;
+    put_entries(
+        &mut table,
+        12,
+        aaaa,
+        b"\x14\x00\x04\x00\x20\x01\x0d\xb8\x00\x00\x00\x00\x00\x00\x00\x00\x00\x00\x00\x01",
+    );
+    let after = 12 + (aaaa as u16) * 20;
+    put_entries(&mut table, after, a, b"\x08\x00\x03\x00\xc0\x00\x02\x11");
+    let end = (after as usize) + (a as usize) * 8;
     let mut out = [0u8; 512];
     let head = ReplyHead {
         id: 0x1234,

@@ -1,10 +1,7 @@
-pub mod SetUp
-pub mod FirstChecks
-pub mod Names
-pub mod Tick
-pub mod Start
-pub mod Tests
-pub mod Laws
-pub mod ExactlyWhen
-pub mod ThreeQueries
-pub mod Sent
+pub mod SettingsLaws
+pub mod SetUpLaws
+pub mod NameLaws
+pub mod OpeningLaws
+pub mod TurnLaws
+pub mod StartLaws
+pub mod TickLaws

@@ -1,12 +1,2 @@
-pub mod Bounds
-pub mod State
-pub mod Outcomes
-pub mod Early
-pub mod SetUp
-pub mod Start
-pub mod Tick
-pub mod Receive
-pub mod Laws
-pub mod ExactlyWhen
-pub mod ThreeQueries
-pub mod Sent
+pub mod Opening
+pub mod Turn

@@ -1,42 +1,54 @@
--- What the theorem needs of the calls' definitions, as facts about explicit hosts. Demand 3 follows from them (file Reach); they are
--- proved in file Obliged.
+-- What the theorem needs of the calls' definitions, as facts about explicit hosts. Demand 3 follows from them (Theorem/Attained); that they
+-- hold, from the laws of the crate host alone, is shown in the files below: Met collects them.
 -- Every state here is one that a host of the link can have: set up, all names Off but the one, and that one in a given state.
 use Prim.Native.Nat.{ℕ, suc, _+_, _%_, _≤_, _<_}
-use mathlib.Core.Path.{_≡_}
+use mathlib.Core.Path.{_≡_, refl, ap}
 use mathlib.Core.Logic.{_≢_}
 use mathlib.Core.Bool.{Bool, true, false, cond}
 use mathlib.Core.List.{List, map}
 use lib.ListN.{getD, set, take, length, replicate}
-use Rattle.responder.specs.Bounds.{latest as latestTime}
-use Rattle.octets.specs.Bounds.{llmnrPort}
+use Rattle.name_table.specs.Bounds.{mostNames}
+use Rattle.host.specs.Bounds.{latest as latestTime, sendsInAll}
+use Rattle.octets.specs.Bounds.{usedBy6, llmnrPort}
 use Rattle.octets.specs.Octets.{Octets}
 use Rattle.octets.specs.declared.Address.{Address}
 use Rattle.octets.specs.declared.Endpoint.{Endpoint}
 use Rattle.octets.specs.declared.Setting.{Setting}
 use Rattle.octets.specs.Addresses.{sameAddress, belowAddress, groupOf}
-use Rattle.refusal.specs.Numbers.{Report, numberIn}
-use Rattle.responder.specs.declared.NameState.{NameState}
-use Rattle.responder.specs.declared.NameState.the-variants.{Off, Verifying, Defending}
-use Rattle.responder.specs.declared.NameState.the-variants.{Unique as IsUnique, Stopped as HasStopped}
-use Rattle.responder.specs.declared.Interface.{Interface}
-use Rattle.responder.specs.declared.Host.{Host}
-use Rattle.responder.specs.State.{offName}
-use Rattle.responder.specs.Outcomes.{Done, Result, refused as Refused, quiet as Quiet, kept as Kept, query as Query, reply as Reply, unique as Unique, stopped as Stopped}
-use Rattle.responder.specs.SetUp.{setUp}
-use Rattle.responder.specs.Start.{checkQuery, start}
-use Rattle.responder.specs.Tick.{tick}
-use Rattle.responder.specs.Receive.{Arrival, receive}
+use Rattle.refusal.specs.Numbers.{Report, number, numberIn}
+use Rattle.host.specs.declared.NameState.{NameState}
+use Rattle.host.specs.declared.NameState.the-variants.{Off, Verifying, Defending}
+use Rattle.host.specs.declared.NameState.the-variants.{Unique as IsUnique, Stopped as HasStopped}
+use Rattle.host.specs.declared.Interface.{Interface}
+use Rattle.host.specs.declared.Host.{Host}
+use Rattle.host.specs.State.{offName}
+use Rattle.host.specs.Outcomes.{Done, refusal, Result, refused as Refused, quiet as Quiet, kept as Kept, query as Query, reply as Reply, unique as Unique, stopped as Stopped}
+use Rattle.host.specs.SetUp.{setUp}
+use Rattle.host.specs.Asking.{checkQuery}
+use Rattle.host.specs.Start.{start}
+use Rattle.host.specs.Tick.{tick}
+use Rattle.host.specs.Receive.{Arrival, receive}
 use Rattle.uniqueness.specs.Link.{Station, settingOf, Link, Lent, Receipt, SameName, OnLink, Conditions}
+pub mod HostWith
+pub mod Stations
+pub mod Called
+pub mod Messages
+pub mod Start
+pub mod Tick
+pub mod Arrivals
+pub mod Queries
+pub mod Replies
+pub mod Met
 
 abbrev pub top : ℕ
 top = latestTime
 
 -- a host of station s whose name is in state x, and its clock at t
 abbrev pub unstarted : Setting → Interface
-unstarted s = record { setting = s; names = replicate 8 offName }
+unstarted s = record { setting = s; names = replicate mostNames offName }
 
 abbrev pub inUse : Station → NameState → Interface
-inUse s x = record { setting = settingOf s (s .interface); names = set (replicate 8 offName) (s .name) (record { state = x }) }
+inUse s x = record { setting = settingOf s (s .interface); names = set (replicate mostNames offName) (s .name) (record { state = x }) }
 
 unfoldable pub hostWith : Station → NameState → ℕ → Host
 hostWith s x t = record { interfaces = set (map unstarted (s .settings)) (s .interface) (inUse s x); clock = t }
@@ -67,6 +79,9 @@ pub record RefusedWith (n : ℕ) (h : Host) (d : Done) : Type 0 where
   pub why : Report
   pub outcome : d .result ≡ Refused why
   pub is : numberIn why ≡ n
+
+pub refused-with : (n : ℕ) (h : Host) (out : List ℕ) (d : Done) → d ≡ refusal h out (number n) → RefusedWith n h d
+refused-with n h out d e = record { host = ap (λ (x : Done). x .host) e; why = number n; outcome = ap (λ (x : Done). x .result) e; is = refl }
 
 -- taken, and nothing went out
 pub record Taken (h : Host) (o : Result) (d : Done) : Type 0 where
@@ -136,7 +151,7 @@ module _ (L : Link) (s : Station) where
 -- of every station s of a link. ReplyTo id y t b: see Obligations
 pub record Meets (ReplyTo : ℕ → List ℕ → Bool → List ℕ → Type 0) (L : Link) (s : Station) (o : OnLink L s) : Type 0 where
   -- a table has at most 8 names
-  pub few : s .name < 8
+  pub few : s .name < mostNames
   -- set-up: that it is accepted is part of OnLink
   pub set-up-time : s .time ≤ top
   pub set-up-interval : 0 < L .interval
@@ -153,36 +168,36 @@ pub record Meets (ReplyTo : ℕ → List ℕ → Bool → List ℕ → Type 0) (
       → RefusedWith 3 (hostWith s x clock) (ticking L s x clock i t v)
   pub tick-quiet : (x : NameState) (clock t : ℕ) (v : Lent) → clock ≤ t → t ≤ top → NotDue x t
       → Taken (hostWith s x t) Quiet (ticking L s x clock (s .interface) t v)
-  pub tick-again : (sends id due clock t : ℕ) (v : Lent) → clock ≤ t → t ≤ top → id < 65536 → due ≤ t → sends < 3
+  pub tick-again : (sends id due clock t : ℕ) (v : Lent) → clock ≤ t → t ≤ top → id < 65536 → due ≤ t → sends < sendsInAll
       → Asked L (o .spelling) id (hostWith s (verifying (suc sends) id (t + L .interval)) t)
       (ticking L s (verifying sends id due) clock (s .interface) t v)
-  pub tick-unique : (sends id due clock t : ℕ) (v : Lent) → clock ≤ t → t ≤ top → due ≤ t → 3 ≤ sends
+  pub tick-unique : (sends id due clock t : ℕ) (v : Lent) → clock ≤ t → t ≤ top → due ≤ t → sendsInAll ≤ sends
       → Taken (hostWith s IsUnique t) (Unique (s .name)) (ticking L s (verifying sends id due) clock (s .interface) t v)
   -- receive: a start's query for the name, from any address of the family
-  pub query-off : (clock t id : ℕ) (y a : List ℕ) (v : Receipt) → clock ≤ t → t ≤ top → id < 65536 → SameName y (L .name) → Octets a → length a ≡ 16
+  pub query-off : (clock t id : ℕ) (y a : List ℕ) (v : Receipt) → clock ≤ t → t ≤ top → id < 65536 → SameName y (L .name) → Octets a → length a ≡ usedBy6
       → RefusedWith 12 (hostWith s Off clock) (asking L s Off clock t id y a v)
   pub query-verifying : (sends own due clock t id : ℕ) (y a : List ℕ) (v : Receipt) → clock ≤ t → t ≤ top → id < 65536 → SameName y (L .name)
-      → Octets a → length a ≡ 16
+      → Octets a → length a ≡ usedBy6
       → Replied (ReplyTo id y true) (source L s a v) (hostWith s (verifying sends own due) t) (asking L s (verifying sends own due) clock t id y a v)
-  pub query-unique : (clock t id : ℕ) (y a : List ℕ) (v : Receipt) → clock ≤ t → t ≤ top → id < 65536 → SameName y (L .name) → Octets a → length a ≡ 16
+  pub query-unique : (clock t id : ℕ) (y a : List ℕ) (v : Receipt) → clock ≤ t → t ≤ top → id < 65536 → SameName y (L .name) → Octets a → length a ≡ usedBy6
       → Replied (ReplyTo id y false) (source L s a v) (hostWith s IsUnique t) (asking L s IsUnique clock t id y a v)
-  pub query-stopped : (clock t id : ℕ) (y a : List ℕ) (v : Receipt) → clock ≤ t → t ≤ top → id < 65536 → SameName y (L .name) → Octets a → length a ≡ 16
+  pub query-stopped : (clock t id : ℕ) (y a : List ℕ) (v : Receipt) → clock ≤ t → t ≤ top → id < 65536 → SameName y (L .name) → Octets a → length a ≡ usedBy6
       → RefusedWith 13 (hostWith s HasStopped clock) (asking L s HasStopped clock t id y a v)
   -- receive: a reply to the host's own query (its ID), from an address that is not its own
   pub reply-clear : (sends id due clock t : ℕ) (y a b : List ℕ) (v : Receipt) → clock ≤ t → t ≤ top → id < 65536 → SameName y (L .name)
-      → Octets a → length a ≡ 16 → sameAddress (address L a) (own L s) ≡ false → ReplyTo id y false b
+      → Octets a → length a ≡ usedBy6 → sameAddress (address L a) (own L s) ≡ false → ReplyTo id y false b
       → Taken (hostWith s HasStopped t) (Stopped (s .name)) (responded L s (verifying sends id due) clock t b a v)
   pub reply-below : (sends id due clock t : ℕ) (y a b : List ℕ) (v : Receipt) → clock ≤ t → t ≤ top → id < 65536 → SameName y (L .name)
-      → Octets a → length a ≡ 16 → sameAddress (address L a) (own L s) ≡ false → ReplyTo id y true b
+      → Octets a → length a ≡ usedBy6 → sameAddress (address L a) (own L s) ≡ false → ReplyTo id y true b
       → belowAddress (address L a) (own L s) ≡ true
       → Taken (hostWith s HasStopped t) (Stopped (s .name)) (responded L s (verifying sends id due) clock t b a v)
   pub reply-above : (sends id due clock t : ℕ) (y a b : List ℕ) (v : Receipt) → clock ≤ t → t ≤ top → id < 65536 → SameName y (L .name)
-      → Octets a → length a ≡ 16 → sameAddress (address L a) (own L s) ≡ false → ReplyTo id y true b
+      → Octets a → length a ≡ usedBy6 → sameAddress (address L a) (own L s) ≡ false → ReplyTo id y true b
       → belowAddress (address L a) (own L s) ≡ false
       → Taken (hostWith s (verifying sends id due) t) (Kept (s .name)) (responded L s (verifying sends id due) clock t b a v)
   -- while the name is not verifying it is unmatched
   pub reply-late : (x : NameState) (clock t id : ℕ) (y a b : List ℕ) (f : Bool) (v : Receipt) → clock ≤ t → t ≤ top → id < 65536 → SameName y (L .name)
-      → Octets a → length a ≡ 16 → ReplyTo id y f b → Waits x ≡ false
+      → Octets a → length a ≡ usedBy6 → ReplyTo id y f b → Waits x ≡ false
       → RefusedWith 15 (hostWith s x clock) (responded L s x clock t b a v)
 
 -- all of it

@@ -7,7 +7,7 @@ use mathlib.Core.Bool.{Bool, true, false, cond, not}
 use mathlib.Core.List.{List, [], _∷_, _++_, map, List·Memᴰ}
 use lib.ListN.{getD, take, length}
 use lib.Dec.{eqb}
-use Rattle.responder.specs.Bounds.{room as roomOctets, latest as latestTime}
+use Rattle.host.specs.Bounds.{room as roomOctets, latest as latestTime}
 use Rattle.octets.specs.Octets.{Octets}
 use Rattle.octets.specs.declared.Address.{Address}
 use Rattle.octets.specs.declared.Endpoint.{Endpoint}
@@ -16,14 +16,15 @@ use Rattle.octets.specs.Addresses.{sameAddress, groupOf, unused}
 use Rattle.refusal.specs.Numbers.{numberIn}
 use Rattle.names.specs.Names.{Labels, IsName, encode}
 use Rattle.names.specs.Folding.{foldedName}
-use Rattle.name_table.specs.Check.{Held, good, checkTable}
+use Rattle.name_table.specs.Check.{Held, good, noName, checkTable}
 use Rattle.name_table.specs.Entries.{GoodTable}
-use Rattle.responder.specs.declared.Host.{Host}
-use Rattle.responder.specs.Outcomes.{Done, Result, ready}
-use Rattle.responder.specs.SetUp.{setUp}
-use Rattle.responder.specs.Start.{noName, checkQuery, start}
-use Rattle.responder.specs.Tick.{tick}
-use Rattle.responder.specs.Receive.{receive}
+use Rattle.host.specs.declared.Host.{Host}
+use Rattle.host.specs.Outcomes.{Done, Result, ready}
+use Rattle.host.specs.SetUp.{setUp}
+use Rattle.host.specs.Asking.{checkQuery}
+use Rattle.host.specs.Start.{start}
+use Rattle.host.specs.Tick.{tick}
+use Rattle.host.specs.Receive.{receive}
 
 -- 1. THE HOSTS ON A LINK
 

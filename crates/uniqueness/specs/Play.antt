@@ -4,8 +4,8 @@ use Prim.Native.Nat.{ℕ, zero, suc, _+_}
 use mathlib.Core.List.{List, [], _∷_, _++_}
 use mathlib.Core.Bool.{Bool, true, false, cond, not}
 use lib.Dec.{ltb, leb, eqb}
-use Rattle.responder.specs.Bounds.{latest as latestTime}
-use Rattle.responder.specs.declared.Host.{Host}
+use Rattle.host.specs.Bounds.{latest as latestTime}
+use Rattle.host.specs.declared.Host.{Host}
 use Rattle.uniqueness.specs.Link.{Link, Request, starts, ticks, Call, Datagram, Receipt, Moment, Observed, off, verifying, owning, stopped, other, sortOf, datagrams, update, isRefused, after, result, received, Probe, observed}
 
 abbrev pub isEmpty : List Datagram → Bool

@@ -1,3 +1,4 @@
+-- `message::is_asked` meets its contract.
 use borrow.Author.Tests.{eq-eqb, ne-eqb}
 use Rattle.message.proofs.is_asked.Statement.{statement}
 use Rattle.message.proofs.is_asked.Tie as tie

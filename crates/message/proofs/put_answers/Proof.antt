@@ -6,8 +6,8 @@ use native.Mathlib.Omega.{arith}
 use lib.ListN.{length}
 use denote.Ref.{now}
 use Rattle.octets.proofs.Octets.{past, not-past}
-use Rattle.name_table.proofs.Records.{record-inside}
-use Rattle.message.proofs.Reply.{Filling, filling-begin, filling-length, filling-count, filled-end, filled-cut, filling-skip, filling-put}
+use Rattle.message.specs.Bounds.{beforeData}
+use Rattle.message.proofs.Reply.{Filling, filling-begin, filling-length, filling-count, filled-end, filled-cut, filling-nearer, filling-skip, filling-put}
 use borrow.Author.Needs.{needs}
 use Rattle.message.proofs.put_answers.Statement.{statement}
 use Rattle.message.proofs.put_answers.Tie as tie
@@ -71,7 +71,7 @@ returns-2 c =
     let g = l .before .before .before in
     let e = sym (m .before .before .record-at .ensures) ∙ m .read .given .1 in
     let o = ap length (i .before .before .part .ensures) in
-    let h = past _ (l .loop .end) (12 + length (now (i .before .before .part .result))) _ (i .before .runs-past .ensures) (i .if2 .taken) in
+    let h = past _ (l .loop .end) (beforeData + length (now (i .before .before .part .result))) _ (i .before .runs-past .ensures) (i .if2 .taken) in
     filled-cut (l .loop .inv) (g .pre .0) _ e (sym (k .before .is-asked .ensures) ∙ k .if1 .taken) (omega arith)
 
 sub-put-answer : tie.Need-sub-put-answer Inv-loop μ-loop
@@ -79,20 +79,13 @@ sub-put-answer c =
     let i = c in
     let l = i .before .before .before .before .before .before .before .before .before in
     let g = l .before .before .before in
-    let h = not-past (g .args .limit) (l .loop .end) (12 + length (now (i .before .before .part .result))) _ (i .before .runs-past .ensures) (i .if2 .left) in
+    let h = not-past (g .args .limit) (l .loop .end) (beforeData + length (now (i .before .before .part .result))) _ (i .before .runs-past .ensures) (i .if2 .left) in
     let n = filling-length (l .loop .inv) (g .pre .0) in
     let p = g .pre in
     search needs
 
 part-put-answer-start : tie.Need-part-put-answer-start Inv-loop μ-loop
-part-put-answer-start c =
-    let i = c in
-    let l = i .before .before .before .before .before .before .before .before .before in
-    let g = l .before .before .before in
-    let h = not-past (g .args .limit) (l .loop .end) (12 + length (now (i .before .before .part .result))) _ (i .before .runs-past .ensures) (i .if2 .left) in
-    let n = filling-length (l .loop .inv) (g .pre .0) in
-    let p = g .pre in
-    search needs
+part-put-answer-start c = let f = sub-put-answer c in search needs
 
 part-put-answer-end : tie.Need-part-put-answer-end Inv-loop μ-loop
 part-put-answer-end c = search needs
@@ -102,7 +95,7 @@ put-answer-requires c κs =
     let i = c .before in
     let l = i .before .before .before .before .before .before .before .before .before in
     let g = l .before .before .before in
-    let h = not-past (g .args .limit) (l .loop .end) (12 + length (now (i .before .before .part .result))) _ (i .before .runs-past .ensures) (i .if2 .left) in
+    let h = not-past (g .args .limit) (l .loop .end) (beforeData + length (now (i .before .before .part .result))) _ (i .before .runs-past .ensures) (i .if2 .left) in
     let n = filling-length (l .loop .inv) (g .pre .0) in
     let p = g .pre in
     search needs
@@ -115,7 +108,7 @@ add-count c =
     let i = c .before .before .before .before in
     let l = i .before .before .before .before .before .before .before .before .before in
     let g = l .before .before .before in
-    let h = not-past (g .args .limit) (l .loop .end) (12 + length (now (i .before .before .part .result))) _ (i .before .runs-past .ensures) (i .if2 .left) in
+    let h = not-past (g .args .limit) (l .loop .end) (beforeData + length (now (i .before .before .part .result))) _ (i .before .runs-past .ensures) (i .if2 .left) in
     let n = filling-count (l .loop .inv) (g .pre .0) in
     let p = g .pre in
     search needs
@@ -126,8 +119,7 @@ loop-less c =
     let l = m .before .before .before in
     let g = l .before .before .before in
     let e = sym (m .before .before .record-at .ensures) ∙ m .read .given .1 in
-    let i = record-inside (now (g .args .table)) (l .loop .p) _ e in
-    omega (arith, i .0, i .1)
+    filling-nearer (l .loop .inv) (g .pre .0) _ e
 
 loop-again : tie.Need-loop-again Inv-loop μ-loop
 loop-again c =
@@ -137,7 +129,7 @@ loop-again c =
     let l = m .before .before .before in
     let g = l .before .before .before in
     let e = sym (m .before .before .record-at .ensures) ∙ m .read .given .1 in
-    let h = not-past (g .args .limit) (l .loop .end) (12 + length (now (i .before .before .part .result))) _ (i .before .runs-past .ensures) (i .if2 .left) in
+    let h = not-past (g .args .limit) (l .loop .end) (beforeData + length (now (i .before .before .part .result))) _ (i .before .runs-past .ensures) (i .if2 .left) in
     filling-put (l .loop .inv) (g .pre .0) _ e _ _ (i .before .before .part .ensures) (sym (k .before .is-asked .ensures) ∙ k .if1 .taken) h (c .before .before .put-answer .ensures)
 
 loop-less-2 : tie.Need-loop-less-2 Inv-loop μ-loop
@@ -146,8 +138,7 @@ loop-less-2 c =
     let l = m .before .before .before in
     let g = l .before .before .before in
     let e = sym (m .before .before .record-at .ensures) ∙ m .read .given .1 in
-    let i = record-inside (now (g .args .table)) (l .loop .p) _ e in
-    omega (arith, i .0, i .1)
+    filling-nearer (l .loop .inv) (g .pre .0) _ e
 
 loop-again-2 : tie.Need-loop-again-2 Inv-loop μ-loop
 loop-again-2 c =

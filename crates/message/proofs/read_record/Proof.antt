@@ -5,6 +5,7 @@ use native.Mathlib.Omega.{arith}
 use lib.ListN.{length}
 use borrow.Author.Needs.{needs}
 use Rattle.octets.proofs.Octets.{past, not-past}
+use Rattle.message.specs.Bounds.{fixedOctets}
 use Rattle.message.proofs.Records.{record-no-owner, record-cut, record-data-cut, record-good}
 use Rattle.message.proofs.read_record.Statement.{statement}
 use Rattle.message.proofs.read_record.Tie as tie
@@ -28,12 +29,12 @@ returns-2 : tie.Need-returns-2
 returns-2 c =
     let d = c .before .before .before in
     let e = sym (d .before .before .read-record-name .ensures) ∙ d .read .given .1 in
-    sym (record-cut _ _ _ e (past _ _ 10 _ (c .before .runs-past .ensures) (c .if1 .taken)))
+    sym (record-cut _ _ _ e (past _ _ fixedOctets _ (c .before .runs-past .ensures) (c .if1 .taken)))
 
 add-big : tie.Need-add-big
 add-big c =
     let d = c .before .before .before in
-    let h = not-past (length (d .before .before .before .before .args .s .now)) (d .read .given .0 .0 .next) 10 _ (c .before .runs-past .ensures) (c .if1 .left) in
+    let h = not-past (length (d .before .before .before .before .args .s .now)) (d .read .given .0 .0 .next) fixedOctets _ (c .before .runs-past .ensures) (c .if1 .left) in
     omega arith
 
 big-requires : tie.Need-big-requires
@@ -45,7 +46,7 @@ cast-len c = search needs
 add-runs-past : tie.Need-add-runs-past
 add-runs-past c =
     let d = c .before .before .before .before in
-    let h = not-past (length (d .before .before .before .before .args .s .now)) (d .read .given .0 .0 .next) 10 _ (c .before .before .runs-past .ensures) (c .before .if1 .left) in
+    let h = not-past (length (d .before .before .before .before .args .s .now)) (d .read .given .0 .0 .next) fixedOctets _ (c .before .before .runs-past .ensures) (c .before .if1 .left) in
     omega arith
 
 runs-past-requires-2 : tie.Need-runs-past-requires-2
@@ -57,8 +58,8 @@ returns-3 c =
     let s = d .before .before .before .before .args .s .now in
     let n = d .read .given .0 .0 in
     let e = sym (d .before .before .read-record-name .ensures) ∙ d .read .given .1 in
-    let h = not-past (length s) (n .next) 10 _ (c .before .before .before .before .runs-past .ensures) (c .before .before .before .if1 .left) in
-    let k = past (length s) (n .next + 10) (c .before .before .big .result) _ (c .before .runs-past2 .ensures) (c .if2 .taken) in
+    let h = not-past (length s) (n .next) fixedOctets _ (c .before .before .before .before .runs-past .ensures) (c .before .before .before .if1 .left) in
+    let k = past (length s) (n .next + fixedOctets) (c .before .before .big .result) _ (c .before .runs-past2 .ensures) (c .if2 .taken) in
     sym (record-data-cut _ _ _ e h (rw (c .before .before .big .ensures) at k))
 
 big-requires-2 : tie.Need-big-requires-2
@@ -114,7 +115,7 @@ add-t22 : tie.Need-add-t22
 add-t22 c =
     let d = c .before .before .before .before .before .before .before .before .before .before in
     let o = c .before .before .before .before in
-    let k = not-past (length (d .before .before .before .before .args .s .now)) (d .read .given .0 .0 .next + 10) (o .before .before .big .result) _ (o .before .runs-past2 .ensures) (o .if2 .left) in
+    let k = not-past (length (d .before .before .before .before .args .s .now)) (d .read .given .0 .0 .next + fixedOctets) (o .before .before .big .result) _ (o .before .runs-past2 .ensures) (o .if2 .left) in
     omega arith
 
 returns-4 : tie.Need-returns-4
@@ -123,7 +124,7 @@ returns-4 c =
     let o = c .before .before .before .before in
     let l = o .before .before .big in
     let e = sym (d .before .before .read-record-name .ensures) ∙ d .read .given .1 in
-    let k = not-past (length (d .before .before .before .before .args .s .now)) (d .read .given .0 .0 .next + 10) (l .result) _ (o .before .runs-past2 .ensures) (o .if2 .left) in
+    let k = not-past (length (d .before .before .before .before .args .s .now)) (d .read .given .0 .0 .next + fixedOctets) (l .result) _ (o .before .runs-past2 .ensures) (o .if2 .left) in
     rw (l .ensures, c .before .before .before .big2 .ensures, c .before .before .big3 .ensures, c .before .big4 .ensures, c .big5 .ensures)
     (sym (record-good _ _ _ e (rw (l .ensures) at k)))
 

@@ -1,3 +1,4 @@
+-- `message::reply_flags` meets its contract.
 use Rattle.message.proofs.reply_flags.Statement.{statement}
 use Rattle.message.proofs.reply_flags.Tie as tie
 

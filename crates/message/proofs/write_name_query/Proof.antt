@@ -5,6 +5,7 @@ use native.Mathlib.Omega.{arith}
 use lib.ListN.{length}
 use borrow.Author.Needs.{needs}
 use Rattle.octets.proofs.Octets.{past, not-past}
+use Rattle.message.specs.Bounds.{headerOctets}
 use Rattle.message.specs.Question.{questionOctets}
 use Rattle.message.proofs.Questions.{question-length}
 use Rattle.message.proofs.Query.{query-length, query-out, name-query-written}
@@ -24,14 +25,14 @@ returns : tie.Need-returns
 returns c =
     let g = c .before .before .before .before .args in
     let q = questionOctets (g .name .now) (g .qtype) (g .class) in
-    let h = past (length (g .out .now)) 0 (12 + length (g .name .now) + 4) _ (c .before .runs-past .ensures) (c .if1 .taken) in
+    let h = past (length (g .out .now)) 0 (headerOctets + length (g .name .now) + 4) _ (c .before .runs-past .ensures) (c .if1 .taken) in
     let l = question-length (g .name .now) (g .qtype) (g .class) in
     (omega (arith, query-length (g .id) (g .flags) q), query-out (g .id) (g .flags) (g .out .now) q (omega arith))
 
 put-query-header-requires : tie.Need-put-query-header-requires
 put-query-header-requires c κs =
     let g = c .before .before .before .before .before .args in
-    let h = not-past (length (g .out .now)) 0 (12 + length (g .name .now) + 4) _ (c .before .before .runs-past .ensures) (c .before .if1 .left) in
+    let h = not-past (length (g .out .now)) 0 (headerOctets + length (g .name .now) + 4) _ (c .before .before .runs-past .ensures) (c .before .if1 .left) in
     omega arith
 
 put-octets-requires : tie.Need-put-octets-requires
@@ -54,7 +55,7 @@ returns-2 c =
     let d = c .before .before .before .before .before .before .before .before .before .before .before .before .before .before .before .before in
     let g = d .before .before .before .before .args in
     let q = questionOctets (g .name .now) (g .qtype) (g .class) in
-    let h = not-past (length (g .out .now)) 0 (12 + length (g .name .now) + 4) _ (d .before .runs-past .ensures) (d .if1 .left) in
+    let h = not-past (length (g .out .now)) 0 (headerOctets + length (g .name .now) + 4) _ (d .before .runs-past .ensures) (d .if1 .left) in
     let l = question-length (g .name .now) (g .qtype) (g .class) in (
       omega (arith, query-length (g .id) (g .flags) q),
       name-query-written (g .id) (g .flags) (g .out .now) _ _ _ _ (g .name .now) (g .qtype) (g .class) _ refl (omega arith)

@@ -1,4 +1,4 @@
-use Rattle.name_table.proofs.Records.{record-inside, count-on, count-end}
+use Rattle.name_table.proofs.Records.{count-on, count-end}
 use Rattle.name_table.specs.Records.{recordsOf}
 use native.Mathlib.Omega.{arith}
 use mathlib.Core.Path.{_≡_, sym, _∙_}
@@ -38,26 +38,20 @@ returns c =
 add-n : tie.Need-add-n Inv-loop μ-loop
 add-n c =
     let l = c .before .before .before .before in
-    let s : List ℕ = now (l .before .before .args .table) in
-    let e = sym (c .before .before .before .record-at .ensures) ∙ c .before .read .given .1 in
-    let i = record-inside s (l .loop .p) _ e in
+    let i = count-on _ (l .loop .p) _ (sym (c .before .before .before .record-at .ensures) ∙ c .before .read .given .1) in
     omega (arith, l .loop .inv .0, i .0, i .1)
 
 loop-less : tie.Need-loop-less Inv-loop μ-loop
 loop-less c =
     let l = c .before .before .before .before in
-    let s : List ℕ = now (l .before .before .args .table) in
-    let e = sym (c .before .before .before .record-at .ensures) ∙ c .before .read .given .1 in
-    let i = record-inside s (l .loop .p) _ e in
+    let i = count-on _ (l .loop .p) _ (sym (c .before .before .before .record-at .ensures) ∙ c .before .read .given .1) in
     omega (arith, i .0, i .1)
 
 loop-again : tie.Need-loop-again Inv-loop μ-loop
 loop-again c =
     let l = c .before .before .before .before in
-    let s : List ℕ = now (l .before .before .args .table) in
-    let e = sym (c .before .before .before .record-at .ensures) ∙ c .before .read .given .1 in
-    let i = record-inside s (l .loop .p) _ e in
-    (omega (arith, l .loop .inv .0, i .0), omega (arith, l .loop .inv .1, count-on s (l .loop .p) _ e))
+    let i = count-on _ (l .loop .p) _ (sym (c .before .before .before .record-at .ensures) ∙ c .before .read .given .1) in
+    (omega (arith, l .loop .inv .0, i .0), omega (arith, l .loop .inv .1, i .2))
 
 pub count-records-spec : {M : Type 1} → statement M
 count-records-spec =

@@ -2,11 +2,12 @@
 -- the same.
 use Prim.Native.Nat.{_-_, _<_, _≤_}
 use mathlib.Core.Path.{_≡_, refl, sym, _∙_}
-use mathlib.Core.Bool.{Bool, true, false, cond}
+use mathlib.Core.Bool.{Bool, true, false}
 use mathlib.Core.Logic.{⊎-elim}
 use native.Mathlib.Omega.{arith}
 use lib.ListN.{length, drop}
 use borrow.Author.Needs.{needs}
+use Rattle.octets.specs.Tests.{_and_}
 use Rattle.octets.proofs.Tests.{cond-same}
 use Rattle.names.specs.Folding.{sameName}
 use Rattle.names.proofs.Folding.{unequal-lengths, same-on, same-off, same-end}
@@ -15,7 +16,7 @@ use Rattle.names.proofs.same_name.Tie as tie
 
 abbrev Inv-loop : tie.InvT-loop
 Inv-loop a b same₀ i₀ same i =
-    (i ≤ length a) × (length a ≡ length b) × (sameName a b ≡ cond same (sameName (drop i a) (drop i b)) false)
+    (i ≤ length a) × (length a ≡ length b) × (sameName a b ≡ (same and sameName (drop i a) (drop i b)))
 
 abbrev μ-loop : tie.MeasureT-loop
 μ-loop a b same₀ i₀ same i = length a - i
@@ -68,11 +69,11 @@ returns-2 : tie.Need-returns-2 Inv-loop μ-loop
 returns-2 c =
     let l = c .before .loop in
     let k : length (c .before .before .before .before .before .args .b .now) ≤ l .i = omega (arith, l .inv .1) in
-    sym (l .inv .2 ∙ rw (same-end _ _ _ (c .loop-test .left) k) (cond-true (l .same)))
+    sym (l .inv .2 ∙ rw (same-end _ _ _ (c .loop-test .left) k) (so-far (l .same)))
   where
-    cond-true : (s : Bool) → cond s true false ≡ s
-    cond-true true = refl
-    cond-true false = refl
+    so-far : (s : Bool) → (s and true) ≡ s
+    so-far true = refl
+    so-far false = refl
 
 pub same-name-spec : {M : Type 1} → statement M
 same-name-spec =

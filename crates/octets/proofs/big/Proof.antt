@@ -1,3 +1,4 @@
+-- `octets::big` meets its contract.
 use denote.Ref.{now}
 use mathlib.Core.Path.{sym}
 use Rattle.octets.proofs.Words.{big-past}

@@ -1,3 +1,4 @@
+-- `octets::copy` meets its contract.
 use Rattle.octets.proofs.Splice.{paste-more, paste-all}
 use borrow.Author.Needs.{needs}
 use native.Mathlib.Omega.{arith}

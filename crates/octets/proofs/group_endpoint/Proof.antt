@@ -1,3 +1,4 @@
+-- `octets::group_endpoint` meets its contract.
 use Rattle.octets.specs.Addresses.{groupEndpoint}
 use borrow.Author.Needs.{needs}
 use Rattle.octets.proofs.group_endpoint.Statement.{statement}

@@ -1,3 +1,4 @@
+-- `octets::group_of` meets its contract.
 use borrow.Author.Tests.{eq-eqb, ne-eqb}
 use Rattle.octets.specs.Addresses.{groupOf}
 use Rattle.octets.proofs.group_of.Statement.{statement}

@@ -1,3 +1,4 @@
+-- `octets::has_address` meets its contract.
 use Rattle.octets.specs.Addresses.{hasAddress}
 use mathlib.Core.Path.{_∙_}
 use borrow.Author.Needs.{needs}

@@ -1,3 +1,4 @@
+-- `octets::is_family` meets its contract.
 use Rattle.octets.specs.Bounds.{ipv4, ipv6}
 use native.Mathlib.Omega.{arith}
 use mathlib.Core.Path.{_≡_}

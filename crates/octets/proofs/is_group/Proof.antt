@@ -1,3 +1,4 @@
+-- `octets::is_group` meets its contract.
 use Rattle.octets.specs.Addresses.{isGroup}
 use mathlib.Core.Path.{_∙_}
 use borrow.Author.Needs.{needs}

@@ -1,3 +1,4 @@
+-- `octets::is_ours` meets its contract.
 use Rattle.octets.specs.Addresses.{isOurs, oursAmong}
 use Rattle.octets.specs.Bounds.{interfaces}
 use Rattle.octets.proofs.Turns.{ours-turn}

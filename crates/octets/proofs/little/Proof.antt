@@ -1,3 +1,4 @@
+-- `octets::little` meets its contract.
 use denote.Ref.{now}
 use mathlib.Core.Path.{sym}
 use Rattle.octets.proofs.Words.{little-past}

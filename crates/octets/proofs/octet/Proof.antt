@@ -1,3 +1,4 @@
+-- `octets::octet` meets its contract.
 use denote.Ref.{now}
 use lib.ListN.{List·getD-eq-default}
 use mathlib.Core.Path.{sym}

@@ -1,3 +1,4 @@
+-- `octets::part` meets its contract.
 use Rattle.octets.proofs.Octets.{part-in, part-crossed, part-past}
 use native.Mathlib.Omega.{arith}
 use mathlib.Core.Path.{sym}

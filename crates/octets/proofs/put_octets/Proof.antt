@@ -1,3 +1,4 @@
+-- `octets::put_octets` meets its contract.
 use Rattle.octets.proofs.Splice.{part-splice, put-in, put-out}
 use Rattle.octets.proofs.Octets.{past, not-past}
 use borrow.Author.Needs.{needs}
@@ -26,16 +27,10 @@ sub-copy c =
     search needs
 
 part-copy-start : tie.Need-part-copy-start
-part-copy-start c =
-    let g = c .before .before .before .before .args in
-    let h = not-past (length (now (g .out))) (g .at) (length (now (g .src))) _ (c .before .runs-past .ensures) (c .if1 .left) in
-    search needs
+part-copy-start c = let f = sub-copy c in search needs
 
 part-copy-end : tie.Need-part-copy-end
-part-copy-end c =
-    let g = c .before .before .before .before .args in
-    let h = not-past (length (now (g .out))) (g .at) (length (now (g .src))) _ (c .before .runs-past .ensures) (c .if1 .left) in
-    search needs
+part-copy-end c = let f = sub-copy c in search needs
 
 copy-requires : tie.Need-copy-requires
 copy-requires c κs =

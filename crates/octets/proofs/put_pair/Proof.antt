@@ -1,3 +1,4 @@
+-- `octets::put_pair` meets its contract.
 use Rattle.octets.proofs.Splice.{two, put-in, put-out}
 use Rattle.octets.proofs.Octets.{past, not-past}
 use native.Mathlib.Omega.{arith}
@@ -25,10 +26,7 @@ slice-write-s c =
     search needs
 
 add-s : tie.Need-add-s
-add-s c =
-    let g = c .before .before .before .args in
-    let h = not-past (length (now (g .s))) (g .at) 2 _ (c .before .runs-past .ensures) (c .if1 .left) in
-    search needs
+add-s c = let f = slice-write-s c in search needs
 
 slice-write-s-2 : tie.Need-slice-write-s-2
 slice-write-s-2 c =

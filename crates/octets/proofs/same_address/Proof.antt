@@ -1,18 +1,17 @@
+-- `octets::same_address` meets its contract.
 use Rattle.octets.specs.Bounds.{usedBy6}
 use Rattle.octets.specs.Addresses.{sameAddress, sameOctets}
-use Rattle.octets.proofs.Turns.{same-family, same-other, same-on, same-off, same-end}
-use Prim.Native.Nat.{_≤_, _-_}
+use Rattle.octets.proofs.Turns.{Comparing, same-family, same-other, same-on, same-off, same-end}
+use Prim.Native.Nat.{_-_}
 use mathlib.Core.Path.{_≡_, sym, _∙_}
 use native.Mathlib.Omega.{arith}
 use lib.ListN.{length}
-use lib.Seq.{slice}
 use borrow.Author.Needs.{needs}
 use Rattle.octets.proofs.same_address.Statement.{statement}
 use Rattle.octets.proofs.same_address.Tie as tie
 
 abbrev Inv-loop : tie.InvT-loop
-Inv-loop a b n i₀ i =
-    (i ≤ n) × (n ≤ length (a .octets)) × (n ≤ length (b .octets)) × (sameAddress a b ≡ sameOctets (slice i n (a .octets)) (slice i n (b .octets)))
+Inv-loop a b n i₀ i = Comparing sameOctets (sameAddress a b) a b n i
 
 abbrev μ-loop : tie.MeasureT-loop
 μ-loop a b n i₀ i = n - i

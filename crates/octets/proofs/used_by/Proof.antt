@@ -1,3 +1,4 @@
+-- `octets::used_by` meets its contract.
 use borrow.Author.Tests.{eq-eqb, ne-eqb}
 use borrow.Author.Needs.{needs}
 use Rattle.octets.proofs.used_by.Statement.{statement}

@@ -25,14 +25,20 @@ kind-of-requires c κs = search needs
 mul-t6 : tie.Need-mul-t6
 mul-t6 c = search needs
 
-element-copy-out-t5 : tie.Need-element-copy-out-t5
-element-copy-out-t5 c = search needs
+element-copy-out-t10 : tie.Need-element-copy-out-t10
+element-copy-out-t10 c = search needs
+
+cast-t5 : tie.Need-cast-t5
+cast-t5 c = search needs
 
 mul-t13 : tie.Need-mul-t13
 mul-t13 c = search needs
 
 element-copy-out-t16 : tie.Need-element-copy-out-t16
 element-copy-out-t16 c = search needs
+
+cast-t17 : tie.Need-cast-t17
+cast-t17 c = search needs
 
 returns-2 : tie.Need-returns-2
 unfolding nameOf
@@ -50,7 +56,9 @@ name-spec =
     element-copy-out-kind-of
     kind-of-requires
     mul-t6
-    element-copy-out-t5
+    element-copy-out-t10
+    cast-t5
     mul-t13
     element-copy-out-t16
+    cast-t17
     returns-2)

@@ -1,3 +1,4 @@
+-- `refusal::Refusal::number` meets its contract.
 use mathlib.Core.Path.{ap, sym}
 use Rattle.refusal.specs.Numbers.{numberOf}
 use borrow.Author.Needs.{needs}

@@ -1,0 +1,10 @@
+pub mod Conditions
+pub mod Called
+pub mod Arrives
+pub mod Received
+pub mod ExactlyWhen
+pub mod Started
+pub mod Ticked
+pub mod Laws
+pub mod ThreeQueries
+pub mod Sent

@@ -1,0 +1,14 @@
+pub mod Bounds
+pub mod State
+pub mod Outcomes
+pub mod Early
+pub mod Asking
+pub mod SetUp
+pub mod Start
+pub mod Tick
+pub mod Receive
+pub mod Laws
+pub mod ExactlyWhen
+pub mod Served
+pub mod ThreeQueries
+pub mod Sent

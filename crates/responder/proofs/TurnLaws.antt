@@ -1,0 +1,75 @@
+-- Laws for what a start or a tick makes of a name.
+use Prim.Native.Nat.{ℕ, suc, _+_, _-_, _<_, _≤_}
+use mathlib.Core.Path.{_≡_, refl, sym, ap}
+use mathlib.Core.List.{List}
+use mathlib.Core.Bool.{true, false, cond}
+use native.Mathlib.Omega.{arith}
+use lib.ListN.{getD}
+use lib.Dec.{ltb, eqb}
+use Rattle.octets.specs.declared.Setting.{Setting}
+use Rattle.octets.proofs.Tests.{split}
+use Rattle.name_table.specs.Check.{Checked, good, noName, namesIn, checkTable}
+use Rattle.name_table.specs.Shown.{namesOf}
+use Rattle.name_table.specs.declared.Table.{Table}
+use Rattle.host.specs.Bounds.{sendsInAll, short, long}
+use Rattle.host.specs.State.{offName, settingOf, withState, intervalOf}
+use Rattle.host.specs.Outcomes.{Result, silent, unique}
+use Rattle.host.specs.Asking.{checkQuery, asking}
+use Rattle.host.specs.Tick.{isDue, due, none, dueFrom, serve}
+use Rattle.host.specs.declared.Name.{Name}
+use Rattle.host.specs.declared.NameState.{NameState}
+use Rattle.host.specs.declared.NameState.the-variants.{Off, Verifying, Unique, Defending, Stopped, Shared}
+use Rattle.host.specs.declared.Host.{Host}
+use Rattle.responder.specs.declared.turn.Turn.{Turn}
+use Rattle.responder.specs.Turn.{again, turned}
+
+-- ---- the search for a name that is due
+
+module _ (n : ℕ) (names : List Name) (time i : ℕ) where
+  go : (m : ℕ) → n - i ≡ suc m → dueFrom (n - i) names i time ≡ cond (isDue (getD names i offName .state) time) (due i) (dueFrom m names (i + 1) time)
+  unfolding dueFrom
+  go m e = rw e
+
+  pub due-turn : i < n → dueFrom (n - i) names i time ≡ cond (isDue (getD names i offName .state) time) (due i) (dueFrom (n - (i + 1)) names (i + 1) time)
+  due-turn h = go (n - (i + 1)) (omega arith)
+
+  pub due-end : n ≤ i → dueFrom (n - i) names i time ≡ none
+  unfolding dueFrom
+  due-end h =
+      let z : n - i ≡ 0 = omega arith in
+      rw z
+
+pub due-all : (n : ℕ) (names : List Name) (time : ℕ) → dueFrom n names 0 time ≡ dueFrom (n - 0) names 0 time
+due-all n names time =
+    let z : n - 0 ≡ n = omega arith in
+    rw z
+
+-- ---- what a call gives
+
+pub interval-most : (s : Setting) → intervalOf s ≤ long
+interval-most s = split (eqb (s .interval) short) (λ p. rw p (omega arith)) (λ p. rw p (omega arith))
+
+-- what a due name is served with
+pub serves : (state : NameState) (h : Host) (table : List ℕ) (i k time : ℕ) (out : List ℕ)
+    → turned (again state (settingOf h i) time) (unique k) h table i k time out ≡ serve state h table i k time out
+unfolding turned
+serves (Verifying sends id timer) h table i k time out = split (ltb sends sendsInAll) (λ p. rw p) (λ p. rw p)
+serves (Defending id qtype qclass timer) h table i k time out = refl
+serves Off h table i k time out = refl
+serves Unique h table i k time out = refl
+serves Stopped h table i k time out = refl
+serves Shared h table i k time out = refl
+
+module _ (a : Turn) (r : Result) (h : Host) (table : List ℕ) (i k time : ℕ) (out : List ℕ) where
+  pub rested : a .asks ≡ false → silent (withState h i k (a .name .state) time) out r ≡ turned a r h table i k time out
+  unfolding turned
+  rested b = rw b
+
+  -- the octets of a name of the table as the code finds them
+  pub asked : a .asks ≡ true → (t : Table) → checkTable table ≡ good (namesOf table t)
+      → asking (withState h i k (a .name .state) time) (settingOf h i) k (checkQuery (a .id) (getD (namesOf table t) k noName .octets)) out
+      ≡ turned a r h table i k time out
+  unfolding turned
+  asked b t g =
+      rw b
+      (ap (λ (c : Checked). asking (withState h i k (a .name .state) time) (settingOf h i) k (checkQuery (a .id) (getD (namesIn c) k noName .octets)) out) (sym g))

@@ -1,0 +1,102 @@
+// How a call after set-up opens: the checks 1 to 4, on numbers alone, and the reading of the table.
+ghost use mathlib.Core.Path.{_≡_};
+ghost use mathlib.Core.Bool.{true};
+ghost use Prim.Native.Nat.{_<_};
+ghost use Rattle.octets.specs.Bounds.{interfaces};
+ghost use Rattle.host.specs.Early.{noInterface, badClock};
+ghost use Rattle.responder.specs.Opening.{slotOf, openedBy, opening};
+use host::Host;
+use name_table::Table;
+use octets::Setting;
+use refusal::Refusal;
+
+// What the opening comes to: a refusal, or none and the names of the table.
+pub(crate) struct Opening {
+    pub(crate) refused: bool,
+    pub(crate) refusal: Refusal,
+    pub(crate) table: Table,
+}
+
+// An index that is always one of an interface: a number above the last counts as 0.
+pub(crate) fn slot(interface: usize) -> usize
+    ensures { λ r. ⌜ r ≡ slotOf interface ⌝ }
+    ensures { λ r. ⌜ r < interfaces ⌝ }
+{
+    if interface < Setting::COUNT {
+        interface
+    } else {
+        0
+    }
+}
+
+fn is_unused(interface: usize, family: u8) -> bool
+    ensures { λ r. ⌜ r ≡ noInterface interface family ⌝ }
+{
+    if Setting::COUNT <= interface {
+        return true;
+    }
+    if octets::is_family(family) {
+        false
+    } else {
+        true
+    }
+}
+
+fn bad_clock(clock: u64, time: u64) -> bool
+    ensures { λ r. ⌜ r ≡ badClock clock time ⌝ }
+{
+    if Host::LATEST < time {
+        return true;
+    }
+    if time < clock { true } else { false }
+}
+
+fn refuse(refusal: Refusal) -> Opening
+    ensures { λ r. ⌜ r .refused ≡ true ⌝ }
+    ensures { λ r. ⌜ r .refusal ≡ refusal ⌝ }
+{
+    let none = Table {
+        kinds: [0; Table::NAMES],
+        starts: [0; Table::NAMES],
+        ends: [0; Table::NAMES],
+        names: 0,
+    };
+    Opening {
+        refused: true,
+        refusal: refusal,
+        table: none,
+    }
+}
+
+// The octets of the buffer, the table, the interface's number and family, the last accepted time and the call's.
+pub(crate) fn open(
+    size: usize,
+    table: &[u8],
+    interface: usize,
+    family: u8,
+    clock: u64,
+    time: u64,
+) -> Opening
+    ensures { λ r. ⌜ openedBy r (now (table .entry)) ≡ opening size (now (table .entry)) interface family clock time ⌝ }
+{
+    if size < Host::ROOM {
+        return refuse(Refusal::Room);
+    }
+    let read = Table::read(table);
+    if !read.good {
+        let at = read.at;
+        return refuse(Refusal::Table { at: at });
+    }
+    if is_unused(interface, family) {
+        return refuse(Refusal::Interface);
+    }
+    if bad_clock(clock, time) {
+        return refuse(Refusal::Clock);
+    }
+    let names = read.table;
+    Opening {
+        refused: false,
+        refusal: Refusal::Room,
+        table: names,
+    }
+}

@@ -1,0 +1,142 @@
+// What a start or a tick makes of a name.
+ghost use mathlib.Core.Path.{_≡_};
+ghost use mathlib.Core.Bool.{cond};
+ghost use Prim.Native.Nat.{_≤_};
+ghost use lib.Dec.{ltb};
+ghost use Rattle.name_table.specs.Bounds.{mostNames};
+ghost use Rattle.name_table.specs.Kinds.{isSharedKind};
+ghost use Rattle.host.specs.Bounds.{latest};
+ghost use Rattle.host.specs.Start.{isIdle};
+ghost use Rattle.host.specs.Tick.{isDue, due, none, dueFrom};
+ghost use Rattle.responder.specs.Turn.{rest, ask, first as firstTurn, again as nextTurn};
+use host::Name;
+use host::NameState;
+use host::Timer;
+use name_table::Kind;
+use octets::Setting;
+
+// A name's next state, and whether its query goes out, with which ID.
+pub(crate) struct Turn {
+    pub(crate) asks: bool,
+    pub(crate) id: u16,
+    pub(crate) name: Name,
+}
+
+fn rests(state: NameState) -> Turn
+    ensures { λ r. ⌜ r ≡ rest state ⌝ }
+{
+    let name = Name { state: state };
+    Turn {
+        asks: false,
+        id: 0,
+        name: name,
+    }
+}
+
+// Verifying, with its timer started now.
+fn asks(sends: u8, id: u16, setting: Setting, time: u64) -> Turn
+    requires { ⌜ time ≤ latest ⌝ }
+    ensures { λ r. ⌜ r ≡ ask sends id setting time ⌝ }
+{
+    let timer = Timer {
+        due: time + Timer::interval(setting),
+    };
+    let name = Name {
+        state: NameState::Verifying {
+            sends: sends,
+            id: id,
+            timer: timer,
+        },
+    };
+    Turn {
+        asks: true,
+        id: id,
+        name: name,
+    }
+}
+
+fn is_shared(kind: Kind) -> bool
+    ensures { λ r. ⌜ r ≡ isSharedKind kind ⌝ }
+{
+    match kind {
+        Kind::Shared => true,
+        _ => false,
+    }
+}
+
+// Of a name that is started: a shared one is Shared at once, of a unique one the check begins.
+pub(crate) fn first(kind: Kind, id: u16, setting: Setting, time: u64) -> Turn
+    requires { ⌜ time ≤ latest ⌝ }
+    ensures { λ r. ⌜ r ≡ firstTurn kind id setting time ⌝ }
+{
+    if is_shared(kind) {
+        return rests(NameState::Shared);
+    }
+    asks(1, id, setting, time)
+}
+
+// Of a name that is due: its query goes out again with its first ID, or it is Unique.
+pub(crate) fn again(state: NameState, setting: Setting, time: u64) -> Turn
+    requires { ⌜ time ≤ latest ⌝ }
+    ensures { λ r. ⌜ r ≡ nextTurn state setting time ⌝ }
+{
+    let NameState::Verifying {
+        sends,
+        id,
+        timer: _,
+    } = state
+    else {
+        return rests(NameState::Unique);
+    };
+    if sends < Timer::SENDS {
+        return asks(sends + 1, id, setting, time);
+    }
+    rests(NameState::Unique)
+}
+
+// Whether a name may be started.
+pub(crate) fn is_idle(state: NameState) -> bool
+    ensures { λ r. ⌜ r ≡ isIdle state ⌝ }
+{
+    match state {
+        NameState::Off => true,
+        NameState::Stopped => true,
+        _ => false,
+    }
+}
+
+fn is_due(state: NameState, time: u64) -> bool
+    ensures { λ r. ⌜ r ≡ isDue state time ⌝ }
+{
+    match state {
+        NameState::Verifying {
+            sends: _,
+            id: _,
+            timer,
+        } => timer.due <= time,
+        NameState::Defending {
+            id: _,
+            qtype: _,
+            qclass: _,
+            timer,
+        } => timer.due <= time,
+        _ => false,
+    }
+}
+
+// The lowest-numbered of the first n names that is due; n if none is.
+pub(crate) fn find_due(names: [Name; Name::COUNT], n: usize, time: u64) -> usize
+    requires { ⌜ n ≤ mostNames ⌝ }
+    ensures { λ r. ⌜ dueFrom n names 0 time ≡ cond (ltb r n) (due r) none ⌝ }
+{
+    let mut i = 0;
+    while i < n {
+        let name = names[i];
+        let state = name.state;
+        if is_due(state, time) {
+            return i;
+        }
+        i = i + 1;
+    }
+    n
+}
