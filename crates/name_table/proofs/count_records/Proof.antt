@@ -1,3 +1,4 @@
+-- `name_table::count_records` meets its contract.
 use Rattle.name_table.proofs.Records.{count-on, count-end}
 use Rattle.name_table.specs.Records.{recordsOf}
 use native.Mathlib.Omega.{arith}

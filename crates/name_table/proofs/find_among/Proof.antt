@@ -1,3 +1,4 @@
+-- `name_table::find_among` meets its contract.
 use Rattle.name_table.specs.Shown.{heldFrom}
 use Rattle.name_table.specs.Check.{findName, findFrom}
 use Rattle.name_table.proofs.Shown.{find-turn, find-end}

@@ -1,3 +1,4 @@
+-- `name_table::form_by` meets its contract.
 use Rattle.name_table.specs.Check.{formBy}
 use borrow.Author.Needs.{needs}
 use Rattle.name_table.proofs.form_by.Statement.{statement}

@@ -1,3 +1,4 @@
+-- `name_table::has_length` meets its contract.
 use borrow.Author.Tests.{eq-eqb, ne-eqb}
 use mathlib.Core.Path.{sym}
 use Rattle.name_table.proofs.has_length.Statement.{statement}

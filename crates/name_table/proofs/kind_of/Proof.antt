@@ -1,3 +1,4 @@
+-- `name_table::kind_of` meets its contract.
 use borrow.Author.Tests.{ne-eqb}
 use Rattle.name_table.specs.Kinds.{kindOf}
 use Rattle.name_table.proofs.kind_of.Statement.{statement}

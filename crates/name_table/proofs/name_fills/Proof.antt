@@ -1,3 +1,4 @@
+-- `name_table::name_fills` meets its contract.
 use Rattle.name_table.specs.Check.{nameFills}
 use borrow.Author.Tests.{eq-eqb, ne-eqb}
 use borrow.Author.Needs.{needs}

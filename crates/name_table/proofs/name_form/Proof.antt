@@ -1,3 +1,4 @@
+-- `name_table::name_form` meets its contract.
 use Rattle.name_table.specs.Check.{nameForm}
 use borrow.Author.Tests.{le-leb, lt-leb}
 use mathlib.Core.Path.{sym, _∙_}

@@ -1,3 +1,4 @@
+-- `name_table::record_at` meets its contract.
 use Rattle.name_table.specs.Records.{recordAt}
 use Rattle.octets.proofs.Octets.{part-rest}
 use Rattle.name_table.proofs.Fold.{some-whole, none-whole, whole-length}

@@ -1,3 +1,4 @@
+-- `name_table::record_by` meets its contract.
 use Rattle.name_table.specs.Records.{recordBy}
 use borrow.Author.Needs.{needs}
 use Rattle.name_table.proofs.record_by.Statement.{statement}

@@ -1,3 +1,4 @@
+-- `name_table::record_form` meets its contract.
 use borrow.Author.Tests.{eq-eqb, ne-eqb, le-leb, lt-leb}
 use Rattle.name_table.specs.Check.{recordForm}
 use Rattle.name_table.proofs.record_form.Statement.{statement}

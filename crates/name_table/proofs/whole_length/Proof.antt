@@ -1,3 +1,4 @@
+-- `name_table::whole_length` meets its contract.
 use borrow.Author.Tests.{le-leb, lt-leb}
 use Rattle.name_table.specs.Check.{isWhole}
 use borrow.Author.Needs.{needs}

@@ -1,3 +1,4 @@
+-- `print_table::print_names` meets its contract.
 use Prim.Native.Nat.{_-_, _≤_}
 use borrow.Author.Needs.{needs}
 use Rattle.print_table.proofs.print_names.Statement.{statement}

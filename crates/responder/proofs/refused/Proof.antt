@@ -1,3 +1,4 @@
+-- `responder::refused` meets its contract.
 use borrow.Author.Needs.{needs}
 use Rattle.responder.proofs.refused.Statement.{statement}
 use Rattle.responder.proofs.refused.Tie as tie

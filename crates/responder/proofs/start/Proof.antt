@@ -1,3 +1,4 @@
+-- `responder::start` meets its contract.
 use Prim.Native.Nat.{ℕ}
 use mathlib.Core.List.{List}
 use mathlib.Core.Path.{_≡_, sym, ap, _∙_}

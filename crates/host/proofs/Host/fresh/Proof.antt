@@ -1,3 +1,4 @@
+-- `host::Host::fresh` meets its contract.
 use borrow.Author.Needs.{needs}
 use Rattle.host.proofs.Host.fresh.Statement.{statement}
 use Rattle.host.proofs.Host.fresh.Tie as tie

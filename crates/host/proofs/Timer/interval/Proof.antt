@@ -1,3 +1,4 @@
+-- `host::Timer::interval` meets its contract.
 use borrow.Author.Tests.{eq-eqb, ne-eqb}
 use borrow.Author.Needs.{needs}
 use Rattle.host.proofs.Timer.interval.Statement.{statement}

@@ -1,3 +1,4 @@
+-- `name_table::Table::find` meets its contract.
 use mathlib.Core.Path.{_∙_}
 use borrow.Author.Needs.{needs}
 use Rattle.name_table.proofs.Table.find.Statement.{statement}

@@ -1,3 +1,4 @@
+-- `name_table::Table::name` meets its contract.
 use Rattle.name_table.specs.Shown.{nameOf}
 use borrow.Author.Tests.{le-leb, lt-leb}
 use borrow.Author.Needs.{needs}

@@ -1,3 +1,4 @@
+-- `name_table::Table::read` meets its contract.
 use mathlib.Core.Path.{_∙_}
 use Rattle.name_table.proofs.Read.{refused-is, long}
 use borrow.Author.Needs.{needs}

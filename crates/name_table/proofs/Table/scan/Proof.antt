@@ -1,3 +1,4 @@
+-- `name_table::Table::scan` meets its contract.
 use Prim.Native.Nat.{ℕ, _+_, _-_, _<_}
 use mathlib.Core.Path.{_≡_, refl, sym, ap, _∙_}
 use mathlib.Core.List.{List}

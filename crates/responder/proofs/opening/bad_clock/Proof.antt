@@ -1,3 +1,4 @@
+-- `responder::opening::bad_clock` meets its contract.
 use borrow.Author.Tests.{lt-ltb, le-ltb}
 use Rattle.responder.proofs.opening.bad_clock.Statement.{statement}
 use Rattle.responder.proofs.opening.bad_clock.Tie as tie

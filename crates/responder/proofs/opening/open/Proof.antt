@@ -1,3 +1,4 @@
+-- `responder::opening::open` meets its contract.
 use mathlib.Core.Path.{_≡_, sym, ap, _∙_}
 use Rattle.name_table.specs.Check.{good, isBad, checkTable}
 use Rattle.name_table.specs.Shown.{namesOf, shown}

@@ -1,3 +1,4 @@
+-- `responder::opening::slot` meets its contract.
 use borrow.Author.Tests.{lt-ltb, le-ltb}
 use borrow.Author.Needs.{needs}
 use Rattle.responder.proofs.opening.slot.Statement.{statement}

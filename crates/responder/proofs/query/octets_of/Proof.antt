@@ -1,3 +1,4 @@
+-- `responder::query::octets_of` meets its contract.
 use mathlib.Core.Path.{sym, _∙_}
 use denote.Ref.{now}
 use Rattle.responder.proofs.NameLaws.{found-octets, no-octets}

@@ -1,3 +1,4 @@
+-- `responder::settings::any_bad` meets its contract.
 use Rattle.responder.proofs.SettingsLaws.{bad-turn}
 use Rattle.octets.specs.Bounds.{interfaces}
 use Rattle.host.specs.SetUp.{badAmong}

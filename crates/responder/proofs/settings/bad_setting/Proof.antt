@@ -1,3 +1,4 @@
+-- `responder::settings::bad_setting` meets its contract.
 use mathlib.Core.Path.{sym, _∙_}
 use borrow.Author.Needs.{needs}
 use Rattle.responder.proofs.settings.bad_setting.Statement.{statement}

@@ -1,3 +1,4 @@
+-- `responder::settings::is_interval` meets its contract.
 use borrow.Author.Tests.{eq-eqb, ne-eqb}
 use Rattle.responder.proofs.settings.is_interval.Statement.{statement}
 use Rattle.responder.proofs.settings.is_interval.Tie as tie

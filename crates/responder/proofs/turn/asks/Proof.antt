@@ -1,3 +1,4 @@
+-- `responder::turn::asks` meets its contract.
 use Rattle.responder.proofs.TurnLaws.{interval-most}
 use native.Mathlib.Omega.{arith}
 use borrow.Author.Needs.{needs}

@@ -1,3 +1,4 @@
+-- `responder::turn::first` meets its contract.
 use mathlib.Core.Path.{sym, _∙_}
 use borrow.Author.Needs.{needs}
 use Rattle.responder.proofs.turn.first.Statement.{statement}

@@ -1,3 +1,4 @@
+-- `responder::turn::is_due` meets its contract.
 use mathlib.Core.Path.{_≡_, refl}
 use mathlib.Core.Bool.{false}
 use Prim.Native.Nat.{ℕ}

@@ -1,3 +1,4 @@
+-- `responder::turn::is_shared` meets its contract.
 use mathlib.Core.Path.{_≡_, refl}
 use mathlib.Core.Bool.{false}
 use mathlib.Core.List.{[], _∷_}
