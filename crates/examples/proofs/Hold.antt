@@ -1,7 +1,7 @@
 -- Every case of the list holds, by computation.
 use mathlib.Core.Path.{refl}
 use Rattle.octets.specs.Octets.{partOf, splice, put}
-use Rattle.octets.specs.Addresses.{sameOctets, sameAddress, groupOf, isGroup, hasAddress, oursAmong}
+use Rattle.octets.specs.Addresses.{sameOctets, sameAddress, groupOf, isGroup, groupEndpoint, hasAddress, oursAmong}
 use Rattle.refusal.specs.Checks.{verdict}
 use Rattle.names.specs.NameWalk.{nameFrom}
 use Rattle.names.specs.Folding.{folded, sameName}
@@ -10,10 +10,13 @@ use Rattle.name_table.specs.Check.{isWhole, nameFills, nameForm, recordForm, fo
 use Rattle.name_table.specs.Records.{recordBy, recordAt, recordsFrom}
 use Rattle.message.specs.Header.{headerOf}
 use Rattle.message.specs.Question.{questionAt}
+use Rattle.message.specs.Query.{queryOctets}
 use Rattle.message.specs.Reply.{takenFrom, replyOctets, replyWritten}
+use Rattle.host.specs.Start.{start}
+use Rattle.host.specs.Tick.{dueFrom, tick}
 use Rattle.host.specs.Receive.{receive}
-use Rattle.examples.specs.Cases.{AllHold, cases}
+use Rattle.examples.specs.Cases.{AllHold, repeated, cases}
 
 pub all-hold : AllHold cases
-unfolding partOf splice put sameOctets sameAddress groupOf isGroup hasAddress oursAmong verdict nameFrom folded sameName kindOf isWhole nameFills nameForm recordForm formBy formAt findFrom step from checkTable recordBy recordAt recordsFrom headerOf questionAt takenFrom replyOctets replyWritten receive
-all-hold = (refl, (refl, (refl, (refl, (refl, (refl, (refl, (refl, (refl, (refl, tt))))))))))
+unfolding partOf splice put sameOctets sameAddress groupOf isGroup groupEndpoint hasAddress oursAmong verdict nameFrom folded sameName kindOf isWhole nameFills nameForm recordForm formBy formAt findFrom step from checkTable recordBy recordAt recordsFrom headerOf questionAt queryOctets takenFrom replyOctets replyWritten start dueFrom tick receive repeated
+all-hold = (refl, (refl, (refl, (refl, (refl, (refl, (refl, (refl, (refl, (refl, (refl, (refl, (refl, (refl, (refl, (refl, (refl, ((refl, (refl, (refl, (refl, (refl, tt))))), tt))))))))))))))))))

@@ -1,5 +1,6 @@
--- Document 01's examples marked P: a list of cases, each a call and what it gives.
-use Prim.Native.Nat.{ℕ, _-_}
+-- Document 01's examples: a list of cases, each a call or some calls and what they give. First those marked P, then the others that are
+-- about one call or a short run.
+use Prim.Native.Nat.{ℕ, zero, suc, _-_}
 use mathlib.Core.Path.{_≡_}
 use mathlib.Core.List.{List, [], _∷_, _++_}
 use lib.ListN.{length, take, replicate}
@@ -8,26 +9,15 @@ use Rattle.octets.specs.Addresses.{groupOf}
 use Rattle.refusal.specs.Numbers.{number}
 use Rattle.name_table.specs.Check.{Checked, good, bad, checkTable}
 use Rattle.host.specs.declared.NameState.{NameState}
-use Rattle.host.specs.declared.NameState.the-variants.{Verifying, Unique}
+use Rattle.host.specs.declared.NameState.the-variants.{Off, Verifying, Unique}
 use Rattle.host.specs.declared.Host.{Host}
 use Rattle.host.specs.State.{offName, withClock}
 use Rattle.host.specs.SetUp.{freshInterface, zeroSetting}
-use Rattle.host.specs.Outcomes.{Done, refused, reply, nowhere}
+use Rattle.host.specs.Outcomes.{Done, Result, refused, reply, quiet, unique, nowhere}
+use Rattle.host.specs.Outcomes.{query as queried}
+use Rattle.host.specs.Start.{start}
+use Rattle.host.specs.Tick.{tick}
 use Rattle.host.specs.Receive.{Arrival, receive}
-
-pub data Case : Type 0 where
-  -- the check of a table
-  table : List ℕ → Checked → Case
-  -- a datagram received by a host
-  received : Host → Arrival → Done → Case
-
-abbrev pub Holds : Case → Type 0
-Holds (table s c) = checkTable s ≡ c
-Holds (received h a d) = receive h a ≡ d
-
-abbrev pub AllHold : List Case → Type 0
-AllHold [] = Unit
-AllHold (c ∷ cs) = Holds c × AllHold cs
 
 -- the name scale3, and table S: unique name scale3 with A 192.0.2.17
 abbrev pub scale3 : List ℕ
@@ -36,6 +26,43 @@ scale3 = 0x06 ∷ 0x73 ∷ 0x63 ∷ 0x61 ∷ 0x6c ∷ 0x65 ∷ 0x33 ∷ 0x00 ∷
 abbrev pub S : List ℕ
 S =
     (0x0c ∷ 0x00 ∷ 0x01 ∷ 0x00 ∷ []) ++ scale3 ++ (0x08 ∷ 0x00 ∷ 0x03 ∷ 0x00 ∷ 0xc0 ∷ 0x00 ∷ 0x02 ∷ 0x11 ∷ [])
+
+abbrev pub buffer : List ℕ
+buffer = replicate 512 0xa5
+
+-- a start of name 0, or a tick, at a time, and its result
+pub data Request : Type 0 where
+  starts ticks : Request
+
+pub record Stage : Type 0 where
+  pub request : Request
+  pub time : ℕ
+  pub result : Result
+
+pub data Case : Type 0 where
+  -- the check of a table
+  table : List ℕ → Checked → Case
+  -- a datagram received by a host
+  received : Host → Arrival → Done → Case
+  -- calls made one after another on interface 0 with table S, and what each comes to
+  run : Host → List Stage → Case
+
+abbrev pub made : Host → Request → ℕ → Done
+made h starts time = start h S 0 0 time 9 buffer
+made h ticks time = tick h S 0 time 77 buffer
+
+abbrev pub Runs : Host → List Stage → Type 0
+Runs h [] = Unit
+Runs h (s ∷ ss) = (made h (s .request) (s .time) .result ≡ s .result) × Runs (made h (s .request) (s .time) .host) ss
+
+abbrev pub Holds : Case → Type 0
+Holds (table s c) = checkTable s ≡ c
+Holds (received h a d) = receive h a ≡ d
+Holds (run h ss) = Runs h ss
+
+abbrev pub AllHold : List Case → Type 0
+AllHold [] = Unit
+AllHold (c ∷ cs) = Holds c × AllHold cs
 
 -- a host whose interface 0 has 192.0.2.17 and 100 ms, with name 0 in some state
 abbrev pub host : NameState → Host
@@ -67,9 +94,6 @@ abbrev pub query : ℕ → ℕ → ℕ → List ℕ → List ℕ
 query flags questions additionals q =
     (0x12 ∷ 0x34 ∷ flags ∷ 0x00 ∷ 0x00 ∷ questions ∷ 0x00 ∷ 0x00 ∷ 0x00 ∷ 0x00 ∷ 0x00 ∷ additionals ∷ []) ++ q
 
-abbrev pub buffer : List ℕ
-buffer = replicate 512 0xa5
-
 abbrev pub querier : Endpoint
 querier =
     record { address = record { family = 4; octets = 0xc0 ∷ 0x00 ∷ 0x02 ∷ 0x63 ∷ replicate 12 0 }; port = 49152 }
@@ -100,6 +124,33 @@ abbrev pub head : ℕ → ℕ → List ℕ
 head flags answers =
     0x12 ∷ 0x34 ∷ flags ∷ 0x00 ∷ 0x00 ∷ 0x01 ∷ 0x00 ∷ answers ∷ 0x00 ∷ 0x00 ∷ 0x00 ∷ 0x00 ∷ []
 
+-- the same octets so many times
+unfoldable pub repeated : ℕ → List ℕ → List ℕ
+repeated zero x = []
+repeated (suc n) x = x ++ repeated n x
+
+-- a question, type 1 and class 1, for a name of one label of n octets
+abbrev pub labelled : ℕ → List ℕ
+labelled n = (n ∷ replicate n 0x61) ++ (0x00 ∷ 0x00 ∷ 0x01 ∷ 0x00 ∷ 0x01 ∷ [])
+
+-- scale3 with n times AAAA 2001:db8::1, and such a record as it is answered
+abbrev pub address6 : List ℕ
+address6 = 0x20 ∷ 0x01 ∷ 0x0d ∷ 0xb8 ∷ replicate 11 0 ++ (0x01 ∷ [])
+
+abbrev pub withAAAA : ℕ → List ℕ
+withAAAA n = take 12 S ++ repeated n ((0x14 ∷ 0x00 ∷ 0x04 ∷ 0x00 ∷ []) ++ address6)
+
+abbrev pub answerAAAA : List ℕ
+answerAAAA = (0xc0 ∷ 0x0c ∷ 0x00 ∷ 0x1c ∷ 0x00 ∷ 0x01 ∷ 0x00 ∷ 0x00 ∷ 0x00 ∷ 0x1e ∷ 0x00 ∷ 0x10 ∷ []) ++ address6
+
+abbrev pub asked : List ℕ → Arrival
+asked t =
+    record { table = t; interface = 0; from = querier; to = groupOf 4; datagram = query 0x00 1 0 question28; time = 8; id = 77; out = buffer }
+
+-- a host that is set up and no more
+abbrev pub fresh : Host
+fresh = record { interfaces = host Off .interfaces; clock = 0 }
+
 abbrev pub cases : List Case
 cases =
     -- S is good: its one name is unique and stands from 4 up to 12
@@ -122,4 +173,22 @@ cases =
     ∷ received (host Unique) (arrival (query 0x00 1 5 question)) (replied Unique (head 0x80 1 ++ question ++ answer))
     -- QDCOUNT 2: 9
     ∷ received (host Unique) (arrival (query 0x00 2 0 question)) (turnedAway Unique 9)
+    -- the others. A datagram of 11 octets: 5; 9,194 are read; 9,195: 5
+    ∷ received (host Unique) (arrival (take 11 (query 0x00 1 0 question))) (turnedAway Unique 5)
+    ∷ received (host Unique) (arrival (query 0x00 1 0 question ++ replicate 9170 0xff)) (replied Unique (head 0x80 1 ++ question ++ answer))
+    ∷ received (host Unique) (arrival (query 0x00 1 0 question ++ replicate 9171 0xff)) (turnedAway Unique 5)
+    -- a label of 63 octets is read, and its name not found: 12; one of 64: 10
+    ∷ received (host Unique) (arrival (query 0x00 1 0 (labelled 63))) (turnedAway Unique 12)
+    ∷ received (host Unique) (arrival (query 0x00 1 0 (labelled 64))) (turnedAway Unique 10)
+    -- scale3 with 17 AAAA: 500 octets, TC clear; with 18: the same answers, TC set
+    ∷ received (host Unique) (asked (withAAAA 17)) (replied Unique (head 0x80 17 ++ question28 ++ repeated 17 answerAAAA))
+    ∷ received (host Unique) (asked (withAAAA 18)) (replied Unique (head 0x82 17 ++ question28 ++ repeated 17 answerAAAA))
+    -- started at 0 with 100 ms: a query of 24 octets; at 99 quiet; at 100 and 200 the query again; at 300 Unique
+    ∷ run fresh
+    (record { request = starts; time = 0; result = queried 0 24 }
+    ∷ record { request = ticks; time = 99; result = quiet }
+    ∷ record { request = ticks; time = 100; result = queried 0 24 }
+    ∷ record { request = ticks; time = 200; result = queried 0 24 }
+    ∷ record { request = ticks; time = 300; result = unique 0 }
+    ∷ [])
     ∷ []
