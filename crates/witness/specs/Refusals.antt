@@ -1,0 +1,140 @@
+-- When each refusal number is given: for set-up, start, tick and receive a list of number and condition, in document 01's order for the
+-- call. That a call gives a number exactly as its list says is shown in proofs/Refusals.antt and proofs/RefusedArrivals.antt.
+use Prim.Native.Nat.{ℕ, _+_, _<_, _≤_}
+use mathlib.Core.Path.{_≡_}
+use mathlib.Core.Logic.{_≢_, _⊎_}
+use mathlib.Core.List.{List, [], _∷_}
+use mathlib.Core.Bool.{true, false, cond}
+use lib.ListN.{length, getD}
+use Rattle.octets.specs.Octets.{partOf}
+use Rattle.octets.specs.Addresses.{isGroup, addressOf, unused}
+use Rattle.octets.specs.declared.Setting.{Setting}
+use Rattle.refusal.specs.Numbers.{Report, number, number-at}
+use Rattle.name_table.specs.declared.Found.the-variants.{At, Nothing}
+use Rattle.name_table.specs.Check.{Held, good, bad, checkTable, findName}
+use Rattle.message.specs.declared.Question.{Question}
+use Rattle.message.specs.declared.QuestionRead.the-variants.{Good, Bad}
+use Rattle.message.specs.Header.{headerOf}
+use Rattle.message.specs.Question.{questionAt}
+use Rattle.host.specs.State.{settingOf, isOwn, stateOf}
+use Rattle.host.specs.Receive.{Arrival}
+use Rattle.host.specs.ExactlyWhen.{WaitsFor}
+use Rattle.host.specs.declared.NameState.the-variants.{Off, Unique, Stopped}
+use Rattle.host.specs.declared.Host.{Host}
+
+-- ---- Numbers and conditions.
+
+pub data Case : Type 1 where
+  -- a number and its condition
+  case : ℕ → Type 0 → Case
+  -- a number with an offset, and the condition for each offset
+  case-at : ℕ → (ℕ → Type 0) → Case
+
+-- The report is that of the first case whose condition holds: its own does, and those before it do not.
+abbrev pub First : Report → List Case → Type 0
+First t [] = ⊥
+First t (case n c ∷ rest) = ((t ≡ number n) × c) ⊎ ((c → ⊥) × First t rest)
+First t (case-at n c ∷ rest) = ((at : ℕ) × (t ≡ number-at n at) × c at) ⊎ (((at : ℕ) → c at → ⊥) × First t rest)
+
+-- ---- Set-up: 2, 4, 20.
+
+-- a used interface whose address is a group address, or whose interval is neither 100 nor 1,000
+abbrev pub IsBadSetting : Setting → Type 0
+IsBadSetting s =
+    ((s .family ≡ 4) ⊎ (s .family ≡ 6))
+    × ((isGroup (addressOf s) ≡ true) ⊎ ((s .interval ≢ 100) × (s .interval ≢ 1000)))
+
+abbrev pub setUpCases : List ℕ → List Setting → ℕ → List Case
+setUpCases table settings time =
+    case-at 2 (λ at. checkTable table ≡ bad at)
+    ∷ case 4 (281474976710655 < time)
+    ∷ case 20 ((i : ℕ) × (i < 4) × IsBadSetting (getD settings i unused))
+    ∷ []
+
+-- ---- Every call after set-up: 1 to 4, then those that follow.
+
+abbrev pub earlyCases : Host → List ℕ → ℕ → ℕ → List ℕ → List Case → List Case
+earlyCases h table i time out rest =
+    case 1 (length out < 512)
+    ∷ case-at 2 (λ at. checkTable table ≡ bad at)
+    ∷ case 3 ((3 < i) ⊎ ((settingOf h i .family ≢ 4) × (settingOf h i .family ≢ 6)))
+    ∷ case 4 ((281474976710655 < time) ⊎ (time < h .clock))
+    ∷ rest
+
+-- Start of the k-th name: 1 to 4, 12, 19.
+abbrev pub startCases : Host → List ℕ → ℕ → ℕ → ℕ → List ℕ → List Case
+startCases h table i k time out =
+    earlyCases h table i time out
+    (case 12 ((names : List Held) × (checkTable table ≡ good names) × (length names ≤ k))
+    ∷ case 19 ((stateOf h i k ≢ Off) × (stateOf h i k ≢ Stopped))
+    ∷ [])
+
+-- Tick: 1 to 4.
+abbrev pub tickCases : Host → List ℕ → ℕ → ℕ → List ℕ → List Case
+tickCases h table i time out = earlyCases h table i time out []
+
+-- ---- A datagram.
+
+-- this holds of the table's names and of the question after the header
+abbrev pub OfQuestion : Arrival → (List Held → Question → Type 0) → Type 0
+OfQuestion a c =
+    (names : List Held) × (q : Question) × (checkTable (a .table) ≡ good names) × (questionAt (a .datagram) 12 ≡ Good q) × c names q
+
+-- it asks for the k-th of these names; for none of them
+abbrev pub IsFor : Arrival → List Held → Question → ℕ → Type 0
+IsFor a names q k = findName names (partOf (a .datagram) 12 (12 + q .name)) ≡ At k
+
+abbrev pub IsForNone : Arrival → List Held → Question → Type 0
+IsForNone a names q = findName names (partOf (a .datagram) 12 (12 + q .name)) ≡ Nothing
+
+-- 5: below 12 or above 9,194 octets
+abbrev pub IsBadLength : Arrival → Type 0
+IsBadLength a = (length (a .datagram) < 12) ⊎ (9194 < length (a .datagram))
+
+-- 6: either address's family differs from the interface's, or the datagram was sent to the wrong place
+abbrev pub IsBadAddress : Host → Arrival → Type 0 → Type 0
+IsBadAddress h a wrong =
+    (a .from .address .family ≢ settingOf h (a .interface) .family) ⊎ (a .to .family ≢ settingOf h (a .interface) .family) ⊎ wrong
+
+-- 14: C set, and the name is not Unique or the source is one of our addresses
+abbrev pub IsBadNotice : Host → Arrival → Type 0
+IsBadNotice h a =
+    (headerOf (a .datagram) .conflict ≡ true)
+    × (OfQuestion a (λ names q. (k : ℕ) × IsFor a names q k × (stateOf h (a .interface) k ≢ Unique)) ⊎ (isOwn h (a .from .address) ≡ true))
+
+-- the k-th name waits here for this ID and question
+abbrev pub IsAwaited : Host → Arrival → Question → ℕ → Type 0
+IsAwaited h a q k = WaitsFor (stateOf h (a .interface) k) (headerOf (a .datagram) .id) (q .qtype) (q .class)
+
+-- A query: 1 to 7, 9 to 14.
+abbrev pub queryCases : Host → Arrival → List Case
+queryCases h a =
+    earlyCases h (a .table) (a .interface) (a .time) (a .out)
+    (case 5 (IsBadLength a)
+    ∷ case 6 (IsBadAddress h a (isGroup (a .to) ≡ false))
+    ∷ case 7 (headerOf (a .datagram) .opcode ≢ 0)
+    ∷ case 9 ((headerOf (a .datagram) .questions ≢ 1) ⊎ (headerOf (a .datagram) .answers ≢ 0) ⊎ (headerOf (a .datagram) .authorities ≢ 0))
+    ∷ case 10 (questionAt (a .datagram) 12 ≡ Bad)
+    ∷ case 11 (OfQuestion a (λ names q. (q .class ≢ 1) × (q .class ≢ 255)))
+    ∷ case 12 (OfQuestion a (λ names q. IsForNone a names q ⊎ ((k : ℕ) × IsFor a names q k × (stateOf h (a .interface) k ≡ Off))))
+    ∷ case 13 (OfQuestion a (λ names q. (k : ℕ) × IsFor a names q k × (stateOf h (a .interface) k ≡ Stopped)))
+    ∷ case 14 (IsBadNotice h a)
+    ∷ [])
+
+-- A response: 1 to 10, 15, 16.
+abbrev pub responseCases : Host → Arrival → List Case
+responseCases h a =
+    earlyCases h (a .table) (a .interface) (a .time) (a .out)
+    (case 5 (IsBadLength a)
+    ∷ case 6 (IsBadAddress h a (isGroup (a .to) ≡ true))
+    ∷ case 7 (headerOf (a .datagram) .opcode ≢ 0)
+    ∷ case 8 (headerOf (a .datagram) .rcode ≢ 0)
+    ∷ case 9 (headerOf (a .datagram) .questions ≢ 1)
+    ∷ case 10 (questionAt (a .datagram) 12 ≡ Bad)
+    ∷ case 15 (OfQuestion a (λ names q. IsForNone a names q ⊎ ((k : ℕ) × IsFor a names q k × (IsAwaited h a q k → ⊥))))
+    ∷ case 16 (isOwn h (a .from .address) ≡ true)
+    ∷ [])
+
+-- Receive, by the QR bit.
+abbrev pub receiveCases : Host → Arrival → List Case
+receiveCases h a = cond (headerOf (a .datagram) .response) (responseCases h a) (queryCases h a)
