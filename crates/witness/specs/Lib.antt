@@ -1,1 +1,5 @@
 pub mod Refusals
+pub mod Replies
+pub mod SameReply
+pub mod States
+pub mod Determined
