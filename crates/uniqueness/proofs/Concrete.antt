@@ -1,6 +1,6 @@
 -- Concrete links, by computation. Play: a list that passes the test of specs/Play.antt keeps the rules. Parts: tables, stations, probes and
 -- calls, and when such a station is on a link. ThreeHosts: three hosts meet every condition, and their list ends with one owner. Needed:
--- each of three premises is needed, for without it a list ends with two owners.
+-- each of five premises is needed, for without it a list that keeps all else ends with two owners.
 pub mod Play
 pub mod Parts
 pub mod ThreeHosts

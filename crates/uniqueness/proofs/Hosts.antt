@@ -159,8 +159,10 @@ module _ (L : Link) (C : Conditions L) where
   pub own-long : (k : ℕ) → k < L .count → length (addressOf L k .octets) ≡ usedBy6
   own-long k l = C .stations k l .fits (L .station k .interface) (C .stations k l .used) .long
 
-  pub some-probe : Probe L
+  abbrev pub some-probe : Probe L
   some-probe = record {
+    time = latestTime;
+    in-range = omega arith;
     spelling = C .stations 0 (C .some) .spelling;
     same = C .stations 0 (C .some) .same;
     id = 0;

@@ -23,7 +23,7 @@
 -- Theorem: from there to the statement. Deliveries, Lists: its lists are the simulation's. Views: observed by every probe, or by some.
 --   OneOwner, GoesOn, Attained: its three parts. Demand3: the theorem, with the obligations met.
 -- Concrete: links played by computation. Play: the test of specs/Play.antt is sound. Parts: tables, stations, probes. ThreeHosts: three
---   hosts that meet every condition, and their owner. Needed: two owners where a premise is dropped.
+--   hosts that meet every condition, and their owner. Needed: two owners where a premise is dropped and all else is kept.
 pub mod Model
 pub mod Simulation
 pub mod Obligations

@@ -311,8 +311,10 @@ pub data Delivered (L : Link) (time : ℕ) : (ℕ → Host) → List Datagram �
 
 -- 8. PROBES
 
--- "a start's query for the name", in any spelling and with any ID, "from any address of the family"
+-- "a start's query for the name", in any spelling and with any ID, "from any address of the family", at a time within the clock's range
 pub record Probe (L : Link) : Type 0 where
+  pub time : ℕ
+  pub in-range : time ≤ latestTime
   pub spelling : List ℕ
   pub same : SameName spelling (L .name)
   pub id : ℕ
@@ -322,7 +324,7 @@ pub record Probe (L : Link) : Type 0 where
   pub source-fits : Octets source
   pub receipt : Receipt
 
--- it is received by a copy of host k "on its used interface .. at the latest time"
+-- it is received by a copy of host k "on its used interface"
 abbrev pub probed : (L : Link) → Moment → ℕ → Probe L → Done
 probed L m k p =
     receive (m .hosts k)
@@ -332,7 +334,7 @@ probed L m k p =
       from = record { address = record { family = L .family; octets = p .source }; port = p .receipt .port };
       to = groupOf (L .family);
       datagram = checkQuery (p .id) (p .spelling);
-      time = m .time;
+      time = p .time;
       id = p .receipt .lent .id;
       out = p .receipt .lent .out;
     })
@@ -340,12 +342,13 @@ probed L m k p =
 abbrev pub observed : (L : Link) → Moment → ℕ → Probe L → Observed
 observed L m k p = ofSort (sortOf (probed L m k p)) (sent (probed L m k p))
 
--- A list that is given need keep the rules only as far as every probe agrees; the list that exists keeps them whichever probe is taken.
+-- "at the latest time", or at any after it. A list that is given need keep the rules only as far as every probe agrees; the list that
+-- exists keeps them whichever probe is taken.
 abbrev pub Every : (L : Link) → Moment → ℕ → Observed → Type 0
-Every L m k x = (p : Probe L) → observed L m k p ≡ x
+Every L m k x = (p : Probe L) → m .time ≤ p .time → observed L m k p ≡ x
 
 abbrev pub Some : (L : Link) → Moment → ℕ → Observed → Type 0
-Some L m k x = (p : Probe L) × (observed L m k p ≡ x)
+Some L m k x = (p : Probe L) × (m .time ≤ p .time) × (observed L m k p ≡ x)
 
 -- 9. LISTS
 
@@ -387,7 +390,7 @@ pub record OneOwner (L : Link) (m : Moment) : Type 0 where
   pub only : (k : ℕ) → k < L .count → Some L m k owning → k ≡ owner
   -- "the same after every list from the same set-ups that starts the holder first .. and that ends with all started and none checking"
   pub same : (cs : List Call) (end : Moment) → Run L (Every L) (OneByOne (Every L) owner) (first L) cs end → Settled L (Every L) end
-      → (k : ℕ) → k < L .count → (p : Probe L) → observed L end k p ≡ observed L m k p
+      → (k : ℕ) → k < L .count → (p q : Probe L) → end .time ≤ p .time → m .time ≤ q .time → observed L end k p ≡ observed L m k q
   -- "such a list exists"
   pub calls : List Call
   pub end : Moment
@@ -395,6 +398,7 @@ pub record OneOwner (L : Link) (m : Moment) : Type 0 where
   pub settled : Settled L (Some L) end
   -- and there is a probe to speak of
   pub probe : Probe L
+  pub not-early : m .time ≤ probe .time
 
 -- a list that starts host w first, one by one, and ends with w owning the name
 pub record Owned (L : Link) (w : ℕ) : Type 0 where

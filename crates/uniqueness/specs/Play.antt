@@ -35,6 +35,12 @@ called L m c = update (m .hosts) (c .host) (result L (m .hosts) c .host)
 abbrev pub sending : Link → Moment → Call → List Datagram
 sending L m c = datagrams L (c .host) (result L (m .hosts) c)
 
+-- the rules for a call that a list may be let off from, as tests
+pub record Rules : Type 0 where
+  pub forward : Moment → Call → Bool
+  pub due : Moment → Call → Bool
+  pub start : Moment → Call → Bool
+
 module _ (L : Link) (x : Receipt) where
   -- the hosts after at most n deliveries, and the copies that are then left
   unfoldable pub deliver : ℕ → ℕ → (ℕ → Host) → List Datagram → ℕ → Host
@@ -60,11 +66,11 @@ module _ (L : Link) (x : Receipt) where
   plays m (c ∷ cs) = plays (play m c) cs
 
   module _ (p : Probe L) where
-    -- no host below n that is verifying is overdue at a time
-    unfoldable pub inTime : ℕ → Moment → ℕ → Bool
-    inTime zero m time = true
-    inTime (suc n) m time =
-        cond (cond (isVerifying (observed L m n p)) (leb time (m .queried n + L .interval)) true) (inTime n m time) false
+    -- at a time, each host below n that is verifying sent its last query at most so long ago
+    unfoldable pub inTime : ℕ → ℕ → Moment → ℕ → Bool
+    inTime long zero m time = true
+    inTime long (suc n) m time =
+        cond (cond (isVerifying (observed L m n p)) (leb time (m .queried n + long)) true) (inTime long n m time) false
 
     -- an accepted start is of the name, and the host's first
     abbrev pub mayStart : Moment → ℕ → Request → Bool → Bool
@@ -72,21 +78,28 @@ module _ (L : Link) (x : Receipt) where
     mayStart m h (starts name) true = true
     mayStart m h ticks b = true
 
-    -- the call keeps the rules of a list, and all that it sends is delivered
-    unfoldable pub keepsRules : Moment → Call → Bool
-    keepsRules m c =
-        cond (ltb (c .host) (L .count))
-        (cond (leb (c .time) latestTime)
-        (cond (leb (m .time) (c .time))
-        (cond (inTime (L .count) m (c .time))
-        (cond (mayStart m (c .host) (c .request) (isRefused (sortOf (result L (m .hosts) c))))
-        (isEmpty (undelivered deliveries (c .time) (called L m c) (sending L m c)))
-        false)
-        false)
-        false)
-        false)
-        false
+    abbrev pub theRules : Rules
+    theRules = record {
+      forward = λ m c. leb (m .time) (c .time);
+      due = λ m c. inTime (L .interval) (L .count) m (c .time);
+      start = λ m c. mayStart m (c .host) (c .request) (isRefused (sortOf (result L (m .hosts) c)));
+    }
 
-    unfoldable pub allKeep : Moment → List Call → Bool
-    allKeep m [] = true
-    allKeep m (c ∷ cs) = cond (keepsRules m c) (allKeep (play m c) cs) false
+  -- the call is of a host of the link and within the clock's range, keeps the rules, and all that it sends is delivered
+  unfoldable pub keepsRules : Rules → Moment → Call → Bool
+  keepsRules R m c =
+      cond (ltb (c .host) (L .count))
+      (cond (leb (c .time) latestTime)
+      (cond (R .forward m c)
+      (cond (R .due m c)
+      (cond (R .start m c)
+      (isEmpty (undelivered deliveries (c .time) (called L m c) (sending L m c)))
+      false)
+      false)
+      false)
+      false)
+      false
+
+  unfoldable pub allKeep : Rules → Moment → List Call → Bool
+  allKeep R m [] = true
+  allKeep R m (c ∷ cs) = cond (keepsRules R m c) (allKeep R (play m c) cs) false

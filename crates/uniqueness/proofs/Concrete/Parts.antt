@@ -28,7 +28,7 @@ use Rattle.message.specs.Header.{headerOf}
 use Rattle.message.specs.Question.{questionAt}
 use Rattle.message.specs.Query.{queryOctets}
 use Rattle.message.specs.Reply.{takenFrom, replyOctets, replyWritten}
-use Rattle.host.specs.Bounds.{room as roomOctets}
+use Rattle.host.specs.Bounds.{room as roomOctets, latest as latestTime}
 use Rattle.host.specs.SetUp.{zeroSetting, badAmong, setUp}
 use Rattle.host.specs.Outcomes.{ready}
 use Rattle.host.specs.Start.{start}
@@ -105,8 +105,11 @@ pub is-lower : SameName (name lower) (name lower)
 unfolding areOctets
 is-lower = same-lower lower refl (omega arith) (omega arith) refl
 
+-- at the clock's last millisecond, which is not before any moment
 abbrev pub probe : (n : ℕ) (stations : ℕ → Station) (interval : ℕ) → Probe (linkOf n stations interval)
 probe n stations interval = record {
+  time = latestTime;
+  in-range = omega arith;
   spelling = name lower;
   same = is-lower;
   id = 5;

@@ -11,7 +11,7 @@ use Rattle.host.specs.Bounds.{latest as latestTime}
 use Rattle.octets.proofs.Tests.{split, both}
 use Rattle.host.specs.declared.Host.{Host}
 use Rattle.uniqueness.specs.Link.{Link, Request, starts, ticks, Call, Datagram, Receipt, Moment, verifying, sortOf, datagrams, update, isRefused, result, received, Probe, observed, Every, AnyOrder, StartRule, Keeps, Delivered, none, next, Run, empty, then}
-use Rattle.uniqueness.specs.Play.{isEmpty, isVerifying, isAmong, deliver, undelivered, called, sending, deliveries, play, plays, inTime, mayStart, keepsRules, allKeep}
+use Rattle.uniqueness.specs.Play.{isEmpty, isVerifying, isAmong, deliver, undelivered, called, sending, deliveries, play, plays, inTime, mayStart, theRules, keepsRules, allKeep}
 use Rattle.uniqueness.proofs.Model.{clash}
 
 no-more : (ps : List Datagram) → isEmpty ps ≡ true → ps ≡ []
@@ -40,19 +40,20 @@ module _ (L : Link) (x : Receipt) where
       (all-delivered n time (update hosts (p .receiver) (received L time (hosts (p .receiver)) p x .host))
       (datagrams L (p .receiver) (received L time (hosts (p .receiver)) p x) ++ ps) e)
 
-  module _ (p : Probe L) where
-    in-time : (n : ℕ) (m : Moment) (time : ℕ) → inTime L x p n m time ≡ true → (k : ℕ) → k < n → Every L m k verifying
+  -- the probe is made at the clock's last millisecond
+  module _ (p : Probe L) (last : latestTime ≤ p .time) where
+    in-time : (n : ℕ) (m : Moment) (time : ℕ) → m .time ≤ latestTime → inTime L x p (L .interval) n m time ≡ true → (k : ℕ) → k < n → Every L m k verifying
         → time ≤ m .queried k + L .interval
     unfolding inTime
-    in-time zero m time e k h v = absurd (omega arith)
-    in-time (suc n) m time e k h v =
-        let b = both (cond (isVerifying (observed L m n p)) (leb time (m .queried n + L .interval)) true) (inTime L x p n m time) .0 e in
+    in-time zero m time a e k h v = absurd (omega arith)
+    in-time (suc n) m time a e k h v =
+        let b = both (cond (isVerifying (observed L m n p)) (leb time (m .queried n + L .interval)) true) (inTime L x p (L .interval) n m time) .0 e in
         split (eqb k n)
         (λ q. let i : k ≡ n = eqb-true k n q in
-        let w : observed L m n p ≡ verifying = ap (λ (j : ℕ). observed L m j p) (sym i) ∙ v p in
+        let w : observed L m n p ≡ verifying = ap (λ (j : ℕ). observed L m j p) (sym i) ∙ v p (omega (arith, a, last)) in
         let t : time ≤ m .queried n + L .interval = leb-true _ _ (rw w at (b .0)) in
         rw i t)
-        (λ q. let i : k ≡ n → ⊥ = eqb-false k n q in in-time n m time (b .1) k (omega arith) v)
+        (λ q. let i : k ≡ n → ⊥ = eqb-false k n q in in-time n m time a (b .1) k (omega arith) v)
 
     may-start : (m : Moment) (h : ℕ) (r : Request) (f : Bool) → mayStart L x p m h r f ≡ true → StartRule AnyOrder L m h r f
     may-start m h (starts name) false e =
@@ -62,31 +63,31 @@ module _ (L : Link) (x : Receipt) where
     may-start m h ticks f e = tt
 
     -- the rules of one call, from the test
-    pub call-keeps : (m : Moment) (c : Call) → keepsRules L x p m c ≡ true
+    pub call-keeps : (m : Moment) (c : Call) → m .time ≤ latestTime → keepsRules L x (theRules L x p) m c ≡ true
         → Keeps L (Every L) AnyOrder m c × (undelivered L x deliveries (c .time) (called L m c) (sending L m c) ≡ [])
     unfolding keepsRules
-    call-keeps m c e =
-        let a = both (ltb (c .host) (L .count)) _ .0 e in
-        let b = both (leb (c .time) latestTime) _ .0 (a .1) in
+    call-keeps m c a e =
+        let o = both (ltb (c .host) (L .count)) _ .0 e in
+        let b = both (leb (c .time) latestTime) _ .0 (o .1) in
         let d = both (leb (m .time) (c .time)) _ .0 (b .1) in
-        let f = both (inTime L x p (L .count) m (c .time)) _ .0 (d .1) in
+        let f = both (inTime L x p (L .interval) (L .count) m (c .time)) _ .0 (d .1) in
         let g = both (mayStart L x p m (c .host) (c .request) (isRefused (sortOf (result L (m .hosts) c)))) _ .0 (f .1) in (
           record {
-            host = ltb-true _ _ (a .0);
+            host = ltb-true _ _ (o .0);
             in-range = leb-true _ _ (b .0);
             forward = leb-true _ _ (d .0);
-            due = in-time (L .count) m (c .time) (f .0);
+            due = in-time (L .count) m (c .time) a (f .0);
             start = may-start m (c .host) (c .request) (isRefused (sortOf (result L (m .hosts) c))) (g .0);
           },
           no-more _ (g .1),
         )
 
     -- a list that passes the test leads where playing it does
-    pub plays-run : (m : Moment) (cs : List Call) → allKeep L x p m cs ≡ true → Run L (Every L) AnyOrder m cs (plays L x m cs)
+    pub plays-run : (m : Moment) (cs : List Call) → m .time ≤ latestTime → allKeep L x (theRules L x p) m cs ≡ true → Run L (Every L) AnyOrder m cs (plays L x m cs)
     unfolding allKeep plays play
-    plays-run m [] e = empty
-    plays-run m (c ∷ cs) e =
-        let b = both (keepsRules L x p m c) (allKeep L x p (play L x m c) cs) .0 e in
-        let k = call-keeps m c (b .0) in
+    plays-run m [] a e = empty
+    plays-run m (c ∷ cs) a e =
+        let b = both (keepsRules L x (theRules L x p) m c) (allKeep L x (theRules L x p) (play L x m c) cs) .0 e in
+        let k = call-keeps m c a (b .0) in
         then c (deliver L x deliveries (c .time) (called L m c) (sending L m c)) (k .0)
-        (all-delivered deliveries (c .time) (called L m c) (sending L m c) (k .1)) (plays-run (play L x m c) cs (b .1))
+        (all-delivered deliveries (c .time) (called L m c) (sending L m c) (k .1)) (plays-run (play L x m c) cs (k .0 .in-range) (b .1))

@@ -1,6 +1,6 @@
 -- Three hosts, with tables, spellings, interfaces and set-up times of their own, meet every condition of the order. A list of their calls
 -- keeps every rule, and ends with one owner, whose address is the lowest.
-use Prim.Native.Nat.{ℕ, zero, suc, _<_}
+use Prim.Native.Nat.{ℕ, zero, suc, _≤_, _<_}
 use mathlib.Core.Path.{_≡_, refl}
 use mathlib.Core.Logic.{_≢_, _⊎_, inl, inr}
 use mathlib.Core.List.{List, [], _∷_, _++_}
@@ -9,9 +9,9 @@ use native.Mathlib.Omega.{arith}
 use lib.Dec.{eqb}
 use Rattle.octets.specs.Addresses.{sameAddress}
 use Rattle.name_table.specs.Check.{Held}
-use Rattle.host.specs.Bounds.{short}
-use Rattle.uniqueness.specs.Link.{Link, Station, addressOf, starts, ticks, Call, Moment, Observed, off, verifying, owning, stopped, Settled, OnLink, Conditions, Probe, observed, Every, AnyOrder, Run, OneOwner, first}
-use Rattle.uniqueness.specs.Play.{plays, allKeep}
+use Rattle.host.specs.Bounds.{short, latest as latestTime}
+use Rattle.uniqueness.specs.Link.{Link, Station, addressOf, starts, ticks, Call, latest, Moment, Observed, off, verifying, owning, stopped, Settled, OnLink, Conditions, Probe, observed, Every, AnyOrder, Run, OneOwner, first}
+use Rattle.uniqueness.specs.Play.{plays, theRules, allKeep}
 use Rattle.uniqueness.proofs.Theorem.Views.{settled-by}
 use Rattle.uniqueness.proofs.Demand3.{demand-3-holds}
 use Rattle.uniqueness.proofs.Concrete.Play.{plays-run}
@@ -112,12 +112,13 @@ three-conditions = record { some = omega arith; family = inl refl; stations = st
     stations (suc (suc (suc k))) h = absurd (omega arith)
 
 -- the list keeps every rule
-three-keep : allKeep threeLink receipt threeProbe (first threeLink) threeCalls ≡ true
+three-keep : allKeep threeLink receipt (theRules threeLink receipt threeProbe) (first threeLink) threeCalls ≡ true
 unfolding computing
 three-keep = refl
 
 pub three-run : Run threeLink (Every threeLink) AnyOrder (first threeLink) threeCalls threeEnd
-three-run = plays-run threeLink receipt threeProbe (first threeLink) threeCalls three-keep
+unfolding latest
+three-run = plays-run threeLink receipt threeProbe (omega arith) (first threeLink) threeCalls (omega arith) three-keep
 
 -- and ends with host 1, whose address is the lowest, as the owner
 pub three-observed : (observed threeLink threeEnd 0 threeProbe ≡ stopped) × (observed threeLink threeEnd 1 threeProbe ≡ owning)
@@ -125,8 +126,12 @@ pub three-observed : (observed threeLink threeEnd 0 threeProbe ≡ stopped) × (
 unfolding computing
 three-observed = (refl, refl, refl)
 
+three-in-range : threeEnd .time ≤ latestTime
+unfolding computing
+three-in-range = omega arith
+
 pub three-settled : Settled threeLink (Every threeLink) threeEnd
-three-settled = settled-by threeLink threeEnd (λ k. threeProbe) (λ k h. ended (observed threeLink threeEnd k threeProbe) (end k h))
+three-settled = settled-by threeLink threeEnd (λ k. threeProbe) (λ k. three-in-range) (λ k h. ended (observed threeLink threeEnd k threeProbe) (end k h))
   where
     ended : (x : Observed) → (x ≡ stopped) ⊎ (x ≡ owning) → (x ≢ off) × (x ≢ verifying)
     ended x (inl e) = (λ f. clash cc, λ f. clash cc)
@@ -143,4 +148,4 @@ pub three-owner : OneOwner threeLink threeEnd
 three-owner = demand-3-holds threeLink three-conditions .one-owner threeCalls threeEnd three-run three-settled
 
 pub three-owner-is : 1 ≡ three-owner .owner
-three-owner-is = three-owner .only 1 (omega arith) (threeProbe, three-observed .1)
+three-owner-is = three-owner .only 1 (omega arith) (threeProbe, three-in-range, three-observed .1)

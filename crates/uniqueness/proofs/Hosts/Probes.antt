@@ -3,10 +3,10 @@ use mathlib.Core.Path.{_≡_, refl, sym, _∙_, ap, subst}
 use mathlib.Core.Bool.{Bool, true, false, cond}
 use mathlib.Core.List.{List, []}
 use Prim.Native.Nat.{ℕ, _%_, _≤_, _<_}
+use native.Mathlib.Omega.{arith}
 use lib.ListN.{getD, take}
 use lib.Dec.{eqb}
 use Rattle.octets.specs.declared.Endpoint.{Endpoint}
-use Rattle.host.specs.Bounds.{latest as latestTime}
 use Rattle.host.specs.declared.Host.{Host}
 use Rattle.host.specs.Outcomes.{Done, Result, reply as Reply}
 use Rattle.uniqueness.specs.Link as Spec
@@ -31,7 +31,7 @@ refused-observed {d = d} T = ap (λ (o : Result). ofSort (sort o) (sent d)) (T .
 abbrev pub momentWith : Host → ℕ → Moment
 momentWith c t = record { hosts = λ j. c; time = t; started = []; queried = λ j. 0 }
 
-module _ (O : Obligations) (L : Link) (C : Conditions L) (k t : ℕ) (l : k < L .count) (lt : t ≤ latestTime) (p : Probe L) where
+module _ (O : Obligations) (L : Link) (C : Conditions L) (k t : ℕ) (l : k < L .count) (p : Probe L) (lt : t ≤ p .time) where
   replied-observed : (f : Bool) (from : Endpoint) (h : Host) (d : Done) → Replied (O .ReplyTo (p .id) (p .spelling) f) from h d
       → ofSort (sort (d .result)) (sent d) ≡ ofTentative f
   replied-observed f from h d T =
@@ -39,22 +39,25 @@ module _ (O : Obligations) (L : Link) (C : Conditions L) (k t : ℕ) (l : k < L 
       ∙ ap ofReply (sent-is d (T .len) (Reply (T .len)) (T .outcome) refl)
       ∙ of-reply f (take (T .len) (d .octets)) (O .reply-t (p .id) (p .spelling) f (take (T .len) (d .octets)) (T .octets))
 
+  not-ahead : (clock : ℕ) → clock ≤ t → clock ≤ p .time
+  not-ahead clock e = omega (arith, e, lt)
+
   pub observes : (s : Claim) (c : Host) → StandsFor L k t s c → observed L (momentWith c t) k p ≡ observation (kind s)
   observes off c r =
       subst (λ (c : Host). observed L (momentWith c t) k p ≡ Spec.off) (sym (r .is))
-      (refused-observed (laws O L C k l .query-off (r .clock) t (p .id) (p .spelling) (p .source) (p .receipt) (r .early) lt (p .id-fits) (p .same)
+      (refused-observed (laws O L C k l .query-off (r .clock) (p .time) (p .id) (p .spelling) (p .source) (p .receipt) (not-ahead (r .clock) (r .early)) (p .in-range) (p .id-fits) (p .same)
       (p .source-fits) (p .source-long)))
   observes (verifying m d) c r =
       subst (λ (c : Host). observed L (momentWith c t) k p ≡ Spec.verifying) (sym (r .is))
       (replied-observed true _ _ _
-      (laws O L C k l .query-verifying m (r .id) d (r .clock) t (p .id) (p .spelling) (p .source) (p .receipt) (r .early) lt (p .id-fits) (p .same)
+      (laws O L C k l .query-verifying m (r .id) d (r .clock) (p .time) (p .id) (p .spelling) (p .source) (p .receipt) (not-ahead (r .clock) (r .early)) (p .in-range) (p .id-fits) (p .same)
       (p .source-fits) (p .source-long)))
   observes unique c r =
       subst (λ (c : Host). observed L (momentWith c t) k p ≡ Spec.owning) (sym (r .is))
       (replied-observed false _ _ _
-      (laws O L C k l .query-unique (r .clock) t (p .id) (p .spelling) (p .source) (p .receipt) (r .early) lt (p .id-fits) (p .same) (p .source-fits)
+      (laws O L C k l .query-unique (r .clock) (p .time) (p .id) (p .spelling) (p .source) (p .receipt) (not-ahead (r .clock) (r .early)) (p .in-range) (p .id-fits) (p .same) (p .source-fits)
       (p .source-long)))
   observes stopped c r =
       subst (λ (c : Host). observed L (momentWith c t) k p ≡ Spec.stopped) (sym (r .is))
-      (refused-observed (laws O L C k l .query-stopped (r .clock) t (p .id) (p .spelling) (p .source) (p .receipt) (r .early) lt (p .id-fits)
+      (refused-observed (laws O L C k l .query-stopped (r .clock) (p .time) (p .id) (p .spelling) (p .source) (p .receipt) (not-ahead (r .clock) (r .early)) (p .in-range) (p .id-fits)
       (p .same) (p .source-fits) (p .source-long)))

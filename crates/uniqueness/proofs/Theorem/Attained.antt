@@ -18,37 +18,46 @@ use Rattle.uniqueness.proofs.Theorem.OneOwner.{first-is-owner, has-one-
 use Rattle.uniqueness.proofs.Theorem.GoesOn.{can-make}
 
 module _ (O : Obligations) (L : Link) (C : Conditions L) where
-  module _ (Order Order′ : Moment → ℕ → Type 0) (rule : (m : Moment) (h : ℕ) → Order m h → Order′ m h) where
-    weaker-start : (m : Moment) (h : ℕ) (r : Request) (b : Bool) → StartRule Order L m h r b → StartRule Order′ L m h r b
-    weaker-start m h (starts k) false (e, new, o) = (e, new, rule m h o)
-    weaker-start m h (starts k) true s = tt
-    weaker-start m h ticks b s = tt
+  -- the clock stays within its range
+  ends-in-range : {Order : Moment → ℕ → Type 0} {m m′ : Moment} {cs : List Call} → m .time ≤ latestTime → Spec.Run L (Some L) Order m cs m′
+      → m′ .time ≤ latestTime
+  ends-in-range a Spec.Run.empty = a
+  ends-in-range a (Spec.Run.then c hosts K E R) = ends-in-range (K .in-range) R
+
+  first-in-range : first L .time ≤ latestTime
+  first-in-range = all-fresh O L C (some L) .in-range
+
+  module _ (Order Order′ : Moment → ℕ → Type 0) (rule : (m : Moment) (h : ℕ) → m .time ≤ latestTime → Order m h → Order′ m h) where
+    weaker-start : (m : Moment) (h : ℕ) (r : Request) (b : Bool) → m .time ≤ latestTime → StartRule Order L m h r b → StartRule Order′ L m h r b
+    weaker-start m h (starts k) false a (e, new, o) = (e, new, rule m h a o)
+    weaker-start m h (starts k) true a s = tt
+    weaker-start m h ticks b a s = tt
 
     -- a list that keeps the rules whichever probe is taken keeps them as far as every probe agrees
-    weaker : {m m′ : Moment} {cs : List Call} → Spec.Run L (Some L) Order m cs m′ → Spec.Run L (Every L) Order′ m cs m′
-    weaker Spec.Run.empty = Spec.Run.empty
-    weaker (Spec.Run.then {m = m} c hosts K E R) =
+    weaker : {m m′ : Moment} {cs : List Call} → m .time ≤ latestTime → Spec.Run L (Some L) Order m cs m′ → Spec.Run L (Every L) Order′ m cs m′
+    weaker a Spec.Run.empty = Spec.Run.empty
+    weaker a (Spec.Run.then {m = m} c hosts K E R) =
         Spec.Run.then c hosts
         (record {
           host = K .host;
           in-range = K .in-range;
           forward = K .forward;
-          due = λ k l e. K .due k l (some-probe L C, e (some-probe L C));
-          start = weaker-start m (c .host) (c .request) (isRefused (sortOf (Spec.result L (m .hosts) c))) (K .start);
-        }) E (weaker R)
+          due = λ k l e. K .due k l (some-probe L C, a, e (some-probe L C) a);
+          start = weaker-start m (c .host) (c .request) (isRefused (sortOf (Spec.result L (m .hosts) c))) a (K .start);
+        }) E (weaker (K .in-range) R)
 
-  pub weaker-settled : (m : Moment) → Settled L (Some L) m → Settled L (Every L) m
-  weaker-settled m s =
+  pub weaker-settled : (m : Moment) → m .time ≤ latestTime → Settled L (Some L) m → Settled L (Every L) m
+  weaker-settled m a s =
       let p = some-probe L C in
-      record { started = λ k l e. s .started k l (p, e p); finished = λ k l e. s .finished k l (p, e p) }
+      record { started = λ k l e. s .started k l (p, a, e p a); finished = λ k l e. s .finished k l (p, a, e p a) }
 
-  weaker-order : (w : ℕ) (m : Moment) (h : ℕ) → OneByOne (Some L) w m h → OneByOne (Every L) w m h
-  weaker-order w m h o = let p = some-probe L C in record { first = o .first; next = λ l ls e x. o .next l ls e (p, x p) }
+  weaker-order : (w : ℕ) (m : Moment) (h : ℕ) → m .time ≤ latestTime → OneByOne (Some L) w m h → OneByOne (Every L) w m h
+  weaker-order w m h a o = let p = some-probe L C in record { first = o .first; next = λ l ls e x. o .next l ls e (p, a, x p a) }
 
   -- for whoever wants the hypotheses of the first part
-  pub any-order : {Order : Moment → ℕ → Type 0} {m m′ : Moment} {cs : List Call} → Spec.Run L (Some L) Order m cs m′
-      → Spec.Run L (Every L) AnyOrder m cs m′
-  any-order {Order} R = weaker Order AnyOrder (λ m h o. tt) R
+  pub any-order : {Order : Moment → ℕ → Type 0} {m m′ : Moment} {cs : List Call} → m .time ≤ latestTime
+      → Spec.Run L (Some L) Order m cs m′ → Spec.Run L (Every L) AnyOrder m cs m′
+  any-order {Order} a R = weaker Order AnyOrder (λ m h a o. tt) a R
 
   pub reach : (w : ℕ) → w < L .count → latest (L .station) (L .count) + L .interval + L .interval + L .interval ≤ latestTime → Owned L w
   reach w lw room =
@@ -64,7 +73,9 @@ module _ (O : Obligations) (L : Link) (C : Conditions L) where
         end = m;
         run = R;
         settled = s;
-        owns = first-is-owner O L C w lw m cs (weaker (OneByOne (Some L) w) (OneByOne (Every L) w) (weaker-order w) R) (weaker-settled m s);
+        owns =
+            first-is-owner O L C w lw m cs (weaker (OneByOne (Some L) w) (OneByOne (Every L) w) (weaker-order w) first-in-range R)
+            (weaker-settled m (ends-in-range first-in-range R) s);
       }
 
 pub demand-3 : Obligations → Demand3

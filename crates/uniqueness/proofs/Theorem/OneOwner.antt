@@ -3,7 +3,7 @@
 use mathlib.Core.Path.{_≡_, sym, _∙_, ap}
 use mathlib.Core.Logic.{dite}
 use mathlib.Core.List.{List}
-use Prim.Native.Nat.{ℕ, _<_}
+use Prim.Native.Nat.{ℕ, _≤_, _<_}
 use native.Mathlib.Decide.{ℕ-discrete}
 use native.Mathlib.Omega.{arith}
 use Rattle.uniqueness.specs.Link as Spec
@@ -55,12 +55,13 @@ module _ (O : Obligations) (L : Link) (C : Conditions L) where
     one : Model.OneOwner (linkModel O L C) world
     one = one-owner (set-up-fresh (linkModel O L C) _) (shown m cs run .run) (shown m cs run .settled (settled-to O L C (every L) m settled))
 
-    alike : (end : Moment) (W : World) → Stands O L C end W → Owns (linkModel O L C) (one .owner) W → (k : ℕ) → k < L .count → (p : Probe L)
-        → observed L end k p ≡ observed L m k p
-    alike end W S h k l p =
+    alike : (end : Moment) (W : World) → Stands O L C end W → Owns (linkModel O L C) (one .owner) W → (k : ℕ) → k < L .count
+        → (p q : Probe L) → end .time ≤ p .time → m .time ≤ q .time → observed L end k p ≡ observed L m k q
+    alike end W S h k l p q a b =
         dite (ℕ-discrete k (one .owner))
-        (λ e. sees O L C end W S k l unique (ap (W .claims) e ∙ h .owns) p ∙ sym (sees O L C m world stands k l unique (ap (world .claims) e ∙ one .owns .owns) p))
-        (λ ne. sees O L C end W S k l stopped (h .others k l ne) p ∙ sym (sees O L C m world stands k l stopped (one .owns .others k l ne) p))
+        (λ e. sees O L C end W S k l unique (ap (W .claims) e ∙ h .owns) p a
+        ∙ sym (sees O L C m world stands k l unique (ap (world .claims) e ∙ one .owns .owns) q b))
+        (λ ne. sees O L C end W S k l stopped (h .others k l ne) p a ∙ sym (sees O L C m world stands k l stopped (one .owns .others k l ne) q b))
 
     exist : Exists (seenBy O L C (some L)) (by-some O L C) (begin O L C) (one .owner)
     exist =
@@ -75,10 +76,10 @@ module _ (O : Obligations) (L : Link) (C : Conditions L) where
     found = in-turn-from O L C (some L) (one .owner) (exist .run)
 
     only : (k : ℕ) → k < L .count → Some L m k owning → k ≡ one .owner
-    only k l (p, e) =
+    only k l (p, a, e) =
         dite (ℕ-discrete k (one .owner)) (λ q. q)
         (λ ne.
-        let u = sees O L C m world stands k l stopped (one .owns .others k l ne) p in
+        let u = sees O L C m world stands k l stopped (one .owns .others k l ne) p a in
         let v = same-kind isOwning (kind stopped) (sym e ∙ u) in
         clash cc)
 
@@ -89,10 +90,11 @@ module _ (O : Obligations) (L : Link) (C : Conditions L) where
       owns = sees O L C m world stands (one .owner) (one .owns .on-link) unique (one .owns .owns);
       others = λ k l ne. sees O L C m world stands k l stopped (one .owns .others k l ne);
       only = only;
-      same = λ cs′ end run′ settled′ k l p. let (W, S, h) = in-turn (one .owner) (one .owns .on-link) end cs′ run′ settled′ in alike end W S h k l p;
+      same = λ cs′ end run′ settled′ k l p q a b. let (W, S, h) = in-turn (one .owner) (one .owns .on-link) end cs′ run′ settled′ in alike end W S h k l p q a b;
       calls = found .0;
       end = momentOf (exist .end);
       run = found .1;
       settled = settled-from O L C (some L) (exist .end) (exist .settled);
       probe = some-probe L C;
+      not-early = stands .in-range;
     }

@@ -40,7 +40,7 @@ latest-under s (suc n) t h =
 abbrev pub every : Link → View
 every L = record {
   Is = Every L;
-  ObservedAs = λ k t c x. (p : Probe L) → observed L (momentWith c t) k p ≡ observation x;
+  ObservedAs = λ k t c x. (p : Probe L) → t ≤ p .time → observed L (momentWith c t) k p ≡ observation x;
   into = λ m k x h. h;
   back = λ m k x h. h;
 }
@@ -48,7 +48,7 @@ every L = record {
 abbrev pub some : Link → View
 some L = record {
   Is = Some L;
-  ObservedAs = λ k t c x. (p : Probe L) × (observed L (momentWith c t) k p ≡ observation x);
+  ObservedAs = λ k t c x. (p : Probe L) × (t ≤ p .time) × (observed L (momentWith c t) k p ≡ observation x);
   into = λ m k x h. h;
   back = λ m k x h. h;
 }
@@ -60,14 +60,14 @@ module _ (O : Obligations) (L : Link) (C : Conditions L) where
   pub by-every : Simulates (seenBy (every L))
   by-every =
       simulates O L C (every L .ObservedAs)
-      (λ k t s c l lt r p. observes O L C k t l lt p s c r)
-      (λ k t s c x l lt r e. let p = some-probe L C in same-kind x (kind s) (sym (e p) ∙ observes O L C k t l lt p s c r))
+      (λ k t s c l lt r p a. observes O L C k t l p a s c r)
+      (λ k t s c x l lt r e. let p = some-probe L C in same-kind x (kind s) (sym (e p lt) ∙ observes O L C k t l p lt s c r))
 
   pub by-some : Simulates (seenBy (some L))
   by-some =
       simulates O L C (some L .ObservedAs)
-      (λ k t s c l lt r. (some-probe L C, observes O L C k t l lt (some-probe L C) s c r))
-      (λ k t s c x l lt r e. same-kind x (kind s) (sym (e .1) ∙ observes O L C k t l lt (e .0) s c r))
+      (λ k t s c l lt r. (some-probe L C, lt, observes O L C k t l (some-probe L C) lt s c r))
+      (λ k t s c x l lt r e. same-kind x (kind s) (sym (e .2) ∙ observes O L C k t l (e .0) (e .1) s c r))
 
   abbrev pub begin : HostWorld Host
   begin = worldOf (first L)
@@ -94,11 +94,12 @@ module _ (O : Obligations) (L : Link) (C : Conditions L) where
     pub stand : (k : ℕ) → k < L .count → StandsFor L k (m .time) (W .claims k) (m .hosts k)
 
   pub sees : (m : Moment) (W : World) → Stands m W → (k : ℕ) → k < L .count → (s : Claim) → W .claims k ≡ s → (p : Probe L)
+      → m .time ≤ p .time
       → observed L m k p ≡ observation (kind s)
-  sees m W S k l s e p =
-      observes O L C k (m .time) l (S .in-range) p s (m .hosts k) (subst (λ (x : Claim). StandsFor L k (m .time) x (m .hosts k)) e (S .stand k l))
+  sees m W S k l s e p a =
+      observes O L C k (m .time) l p a s (m .hosts k) (subst (λ (x : Claim). StandsFor L k (m .time) x (m .hosts k)) e (S .stand k l))
 
 -- one probe of each host that tells neither Off nor verifying is enough for the hypothesis
-pub settled-by : (L : Link) (m : Moment) (q : ℕ → Probe L)
+pub settled-by : (L : Link) (m : Moment) (q : ℕ → Probe L) → ((k : ℕ) → m .time ≤ q k .time)
     → ((k : ℕ) → k < L .count → (observed L m k (q k) ≢ Spec.off) × (observed L m k (q k) ≢ Spec.verifying)) → Settled L (Every L) m
-settled-by L m q h = record { started = λ k l e. h k l .0 (e (q k)); finished = λ k l e. h k l .1 (e (q k)) }
+settled-by L m q a h = record { started = λ k l e. h k l .0 (e (q k) (a k)); finished = λ k l e. h k l .1 (e (q k) (a k)) }
