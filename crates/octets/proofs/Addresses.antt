@@ -198,6 +198,11 @@ among (suc n) settings a = (
       (λ q. inr (among n settings a .1 (t .0, not-last (t .0) n (t .1) q, t .2)))),
 )
 
+-- an unused interface has no address
+pub has-address-other : (i : Setting) (a : Address) → (i .family ≡ 4 → ⊥) → (i .family ≡ 6 → ⊥) → hasAddress i a ≡ false
+unfolding hasAddress
+has-address-other i a h k = rw (ne-eqb _ _ h, ne-eqb _ _ k)
+
 -- an address is ours if one of the interfaces has it
 pub ours : (settings : List Setting) (a : Address)
     → (isOurs settings a ≡ true) ↔ ((i : ℕ) × (i < interfaces) × (hasAddress (getD settings i unused) a ≡ true))
