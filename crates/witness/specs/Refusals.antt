@@ -96,9 +96,9 @@ abbrev pub IsBadAddress : Host → Arrival → Type 0 → Type 0
 IsBadAddress h a wrong =
     (a .from .address .family ≢ settingOf h (a .interface) .family) ⊎ (a .to .family ≢ settingOf h (a .interface) .family) ⊎ wrong
 
--- 14: C set, and the name is not Unique or the source is one of our addresses
-abbrev pub IsBadNotice : Host → Arrival → Type 0
-IsBadNotice h a =
+-- 14: a conflict notification (document 01: notice), C set, and the name is not Unique or the source is one of our addresses
+abbrev pub IsBadNotification : Host → Arrival → Type 0
+IsBadNotification h a =
     (headerOf (a .datagram) .conflict ≡ true)
     × (OfQuestion a (λ names q. (k : ℕ) × IsFor a names q k × (stateOf h (a .interface) k ≢ Unique)) ⊎ (isOwn h (a .from .address) ≡ true))
 
@@ -118,7 +118,7 @@ queryCases h a =
     ∷ case 11 (OfQuestion a (λ names q. (q .class ≢ 1) × (q .class ≢ 255)))
     ∷ case 12 (OfQuestion a (λ names q. IsForNone a names q ⊎ ((k : ℕ) × IsFor a names q k × (stateOf h (a .interface) k ≡ Off))))
     ∷ case 13 (OfQuestion a (λ names q. (k : ℕ) × IsFor a names q k × (stateOf h (a .interface) k ≡ Stopped)))
-    ∷ case 14 (IsBadNotice h a)
+    ∷ case 14 (IsBadNotification h a)
     ∷ [])
 
 -- A response: 1 to 10, 15, 16.
