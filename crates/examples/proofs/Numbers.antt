@@ -4,13 +4,16 @@ use Rattle.octets.specs.Addresses.{groupOf}
 use Rattle.names.specs.Folding.{folded}
 use Rattle.name_table.specs.Kinds.{kindOf}
 use Rattle.message.specs.Header.{headerOf}
-use Rattle.examples.specs.Numbers.{OfTheHost, OfMessages, OfFlags, OfNames, OfAddresses, OfTables}
+use Rattle.examples.specs.Numbers.{OfTheHost, OfMessages, OfWords, OfFlags, OfNames, OfAddresses, OfTables}
 
 pub numbers-of-the-host : OfTheHost
 numbers-of-the-host = (refl, refl, refl, refl, refl, refl, refl, refl, refl)
 
 pub numbers-of-messages : OfMessages
-numbers-of-messages = (refl, refl, refl, refl, refl)
+numbers-of-messages = (refl, refl, refl, refl, refl, refl)
+
+pub words : OfWords
+words = (refl, refl, refl, refl)
 
 pub flag-bits : OfFlags
 unfolding headerOf
@@ -18,7 +21,7 @@ flag-bits = (refl, refl, refl, refl, refl, refl, refl)
 
 pub numbers-of-names : OfNames
 unfolding folded
-numbers-of-names = (refl, refl, refl, refl, refl, refl, refl, refl)
+numbers-of-names = (refl, refl, refl, refl, refl, refl, refl, refl, refl)
 
 pub numbers-of-addresses : OfAddresses
 unfolding groupOf

@@ -21,7 +21,7 @@ use Rattle.message.specs.declared.Question.{Question}
 use Rattle.message.specs.Question.{questionOr, isBadQuestion}
 use Rattle.host.specs.Bounds.{shortest, longest, anyClass}
 use Rattle.host.specs.State.{settingOf, stateOf}
-use Rattle.host.specs.Receive.{Arrival, header, question, found, nameNumber, state, badLength, badAddress, badClass, messageChecks, queryChecks, responseChecks, receiveChecks, receiveIf, receive}
+use Rattle.host.specs.Receive.{Arrival, header, question, found, nameNumber, state, badClass, datagramChecks, queryChecks, responseChecks, receiveChecks, receiveIf, receive}
 use Rattle.host.specs.ExactlyWhen.{ArrivesWell, QueryArrives, ResponseArrives, AsksFor, AsksForNone}
 use Rattle.host.specs.declared.Host.{Host}
 use Rattle.host.proofs.Conditions.{question-good, class-is}
@@ -29,7 +29,7 @@ use Rattle.host.proofs.Called.{called-is, called-gives}
 
 -- the checks after the first four; and those after 11
 abbrev later : Host → Arrival → Checks → Checks
-later h a rest = fail (badLength a) (number 5) (fail (badAddress h a) (number 6) (messageChecks a rest))
+later h a rest = datagramChecks (settingOf h (a .interface) .family) (a .from .address .family) (a .to) (a .datagram) rest
 
 abbrev pub last : Host → Arrival → Checks
 last h a = cond (header a .response) (responseChecks h a) (queryChecks h a)

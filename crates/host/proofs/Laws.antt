@@ -1,6 +1,6 @@
 -- What holds of every call: a refusal changes nothing; an accepted call sets the clock; at most one name changes, and no setting; and what
 -- a call gives depends on its own interface's names alone.
-use Prim.Native.Nat.{ℕ, _<_, _≤_}
+use Prim.Native.Nat.{ℕ, zero, suc, _<_, _≤_}
 use mathlib.Core.Path.{_≡_, refl, sym, ap, _∙_, subst}
 use mathlib.Core.Logic.{_≢_}
 use mathlib.Core.List.{List, [], _∷_}
@@ -10,6 +10,7 @@ use lib.ListN.{length, getD, set, length-map}
 use lib.Seq.{getD-set-same, getD-set-other, set-out, map-set-same}
 use lib.Dec.{leb, ltb}
 use borrow.Author.Tests.{leb-true, leb-false}
+use Rattle.octets.specs.Addresses.{unused}
 use Rattle.octets.specs.declared.Endpoint.{Endpoint}
 use Rattle.octets.specs.declared.Setting.{Setting}
 use Rattle.octets.proofs.Tests.{split, never}
@@ -18,7 +19,7 @@ use Rattle.refusal.specs.Checks.{pass, Verdict, refused as refusedBy, passed, v
 use Rattle.name_table.specs.Kinds.{kindOf, isSharedKind}
 use Rattle.name_table.specs.Check.{checkTable, namesIn, nameIn}
 use Rattle.host.specs.Bounds.{sendsInAll}
-use Rattle.host.specs.State.{offName, absent, interfaceOf, stateOf, withClock, withState}
+use Rattle.host.specs.State.{offName, absent, interfaceOf, settingOf, settingsOf, stateOf, withClock, withState}
 use Rattle.host.specs.Outcomes.{Result, refused, isRefused, Done, refusal}
 use Rattle.host.specs.Early.{early}
 use Rattle.host.specs.SetUp.{zeroHost, setUpChecks, setUpBy, setUp}
@@ -191,6 +192,24 @@ tick-only h table i time id out = record { name = served h table i time; only = 
 -- A datagram: the name that it asks for.
 pub receive-only : (h : Host) (a : Arrival) → OnlyChanges h (receive h a .host) (a .interface) (nameNumber a)
 receive-only h a = only (receive-does h a)
+
+-- ---- The settings, one by one, and a state that stays.
+
+pub setting-there : (l : List Interface) (i : ℕ) → getD (settingsOf l) i unused ≡ getD l i absent .setting
+setting-there [] i = refl
+setting-there (x ∷ l) zero = refl
+setting-there (x ∷ l) (suc i) = setting-there l i
+
+set-same : {A : Type 0} (l : List A) (i : ℕ) (d : A) → set l i (getD l i d) ≡ l
+set-same [] i d = refl
+set-same (x ∷ l) zero d = refl
+set-same (x ∷ l) (suc i) d = ap {B = List _} (λ r. x ∷ r) (set-same l i d)
+
+pub state-stays : (h : Host) (i k time : ℕ) → withState h i k (stateOf h i k) time ≡ withClock h time
+state-stays h i k time =
+    let n : set (interfaceOf h i .names) k (record { state = stateOf h i k }) ≡ interfaceOf h i .names = set-same (interfaceOf h i .names) k offName in
+    ap (λ (x : List Name). record { interfaces = set (h .interfaces) i (record { setting = settingOf h i; names = x }); clock = time }) n
+    ∙ ap (λ (x : List Interface). record { interfaces = x; clock = time }) (set-same (h .interfaces) i absent)
 
 -- ---- What a call gives depends on the clock, all settings, its own interface's names and its inputs, and on nothing else.
 

@@ -1,4 +1,4 @@
--- Receive, in stages: arrival (1 to 6), message (7 to 11), name (12 to 14; 15 and 16 for a response), then decision and effect.
+-- Receive, in stages: opening (1 to 4), datagram (5 to 11), name (12 to 14; 15 and 16 for a response), then decision and effect.
 use Prim.Native.Nat.{ℕ, _+_}
 use mathlib.Core.List.{List}
 use mathlib.Core.Bool.{Bool, false, cond, not}
@@ -16,6 +16,7 @@ use Rattle.name_table.specs.Check.{checkTable, namesIn, nameIn, findName, isFou
 use Rattle.message.specs.Bounds.{headerOctets, classIN, typeANY}
 use Rattle.message.specs.declared.Header.{Header}
 use Rattle.message.specs.declared.Question.{Question}
+use Rattle.message.specs.declared.QuestionRead.{QuestionRead}
 use Rattle.message.specs.declared.ReplyHead.{ReplyHead}
 use Rattle.message.specs.Header.{headerOf}
 use Rattle.message.specs.Question.{questionAt, questionOr, isBadQuestion}
@@ -56,15 +57,15 @@ abbrev pub nameAsked : Arrival → Question → List ℕ
 nameAsked a q = partOf (a .datagram) headerOctets (headerOctets + q .name)
 
 -- 5: below 12 or above 9,194 octets
-abbrev pub badLength : Arrival → Bool
-badLength a = ltb (length (a .datagram)) shortest or ltb longest (length (a .datagram))
+abbrev pub badLength : List ℕ → Bool
+badLength datagram = ltb (length datagram) shortest or ltb longest (length datagram)
 
 -- 6: either address's family differs from the interface's; a query not sent to the group; a response sent to it
-abbrev pub badAddress : Host → Arrival → Bool
-badAddress h a =
-    not (eqb (a .from .address .family) (settingOf h (a .interface) .family))
-    or not (eqb (a .to .family) (settingOf h (a .interface) .family))
-    or cond (header a .response) (isGroup (a .to)) (not (isGroup (a .to)))
+abbrev pub badAddress : ℕ → ℕ → Address → Bool → Bool
+badAddress family source to response =
+    not (eqb source family)
+    or not (eqb (to .family) family)
+    or cond response (isGroup to) (not (isGroup to))
 
 -- 9: query: QDCOUNT not 1, or ANCOUNT or NSCOUNT not 0; response: QDCOUNT not 1
 abbrev pub badCounts : Header → Bool
@@ -111,22 +112,22 @@ abbrev pub unmatched : Host → Arrival → Bool
 unmatched h a =
     not (isFound (found a)) or not (awaits (state h a) (header a .id) (question a .qtype) (question a .class))
 
--- the stages
-abbrev pub arrivalChecks : Host → Arrival → Checks → Checks
-arrivalChecks h a rest =
-    early h (a .table) (a .interface) (a .time) (a .out)
-    (fail (badLength a) (number 5)
-    (fail (badAddress h a) (number 6)
-    rest))
-
-abbrev pub messageChecks : Arrival → Checks → Checks
-messageChecks a rest =
-    fail (not (eqb (header a .opcode) 0)) (number 7)
-    (fail (header a .response and not (eqb (header a .rcode) 0)) (number 8)
-    (fail (badCounts (header a)) (number 9)
-    (fail (isBadQuestion (questionAt (a .datagram) headerOctets)) (number 10)
-    (fail (not (header a .response) and badClass (question a .class)) (number 11)
+-- the stages. 7 to 11, of a header and of the question after it
+abbrev pub messageChecks : Header → QuestionRead → Checks → Checks
+messageChecks x q rest =
+    fail (not (eqb (x .opcode) 0)) (number 7)
+    (fail (x .response and not (eqb (x .rcode) 0)) (number 8)
+    (fail (badCounts x) (number 9)
+    (fail (isBadQuestion q) (number 10)
+    (fail (not (x .response) and badClass (questionOr q .class)) (number 11)
     rest))))
+
+-- 5 to 11, of the interface's family, the source's, the destination and the datagram
+abbrev pub datagramChecks : ℕ → ℕ → Address → List ℕ → Checks → Checks
+datagramChecks family source to datagram rest =
+    fail (badLength datagram) (number 5)
+    (fail (badAddress family source to (headerOf datagram .response)) (number 6)
+    (messageChecks (headerOf datagram) (questionAt datagram headerOctets) rest))
 
 abbrev pub queryChecks : Host → Arrival → Checks
 queryChecks h a =
@@ -143,7 +144,9 @@ responseChecks h a =
 
 abbrev pub receiveChecks : Host → Arrival → Checks
 receiveChecks h a =
-    arrivalChecks h a (messageChecks a (cond (header a .response) (responseChecks h a) (queryChecks h a)))
+    early h (a .table) (a .interface) (a .time) (a .out)
+    (datagramChecks (settingOf h (a .interface) .family) (a .from .address .family) (a .to) (a .datagram)
+    (cond (header a .response) (responseChecks h a) (queryChecks h a)))
 
 -- what an accepted datagram calls for
 pub data Decision : Type 0 where

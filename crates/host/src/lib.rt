@@ -108,13 +108,17 @@ impl Interface {
 }
 
 impl Host {
-    // The latest time, 2^48 - 1 milliseconds; the octets of the output buffer that every call but set-up needs; and those of a reply
-    // at the most.
+    // The latest time, 2^48 - 1 milliseconds; the octets of the output buffer that every call but set-up needs, of a reply at the
+    // most, and of a datagram at the most; the class that asks for any class.
     pub const LATEST: u64 = 281474976710655;
 
     pub const ROOM: usize = 512;
 
     pub const REPLY: u16 = 512;
+
+    pub const DATAGRAM: usize = 9194;
+
+    pub const ANY_CLASS: u16 = 255;
 
     // With all names Off.
     pub fn fresh(settings: [Setting; Setting::COUNT], time: u64) -> Self

@@ -1,6 +1,6 @@
 -- What the reader of a header means.
 use Prim.Native.Nat.{ℕ, _+_, _*_, _/_, _%_, _<_, _≤_}
-use mathlib.Core.Path.{_≡_, refl, sym, ap, _∙_}
+use mathlib.Core.Path.{_≡_, refl, sym, ap, _∙_, subst}
 use mathlib.Core.List.{List}
 use mathlib.Core.Bool.{Bool, true, false, cond}
 use mathlib.Core.Logic.{_↔_}
@@ -16,7 +16,7 @@ use Rattle.octets.proofs.Words.{big-word}
 use Rattle.message.specs.Bounds.{headerOctets}
 use Rattle.message.specs.declared.Header.{Header}
 use Rattle.message.specs.declared.HeaderRead.the-variants.{Good, Short}
-use Rattle.message.specs.Header.{bits, isSet, headerOf, headerAt, bit, Layout}
+use Rattle.message.specs.Header.{bits, isSet, headerOf, headerAt, bit, Layout, IsHeader}
 
 -- fewer than 12 octets, and 12 or more
 pub header-short : (s : List ℕ) → length s < headerOctets → headerAt s ≡ Short
@@ -139,3 +139,66 @@ layout-one g h p q word a b =
       },
       omega (arith, a .sum, b .sum),
     )
+
+-- ---- the header, whole
+
+stands : (s : List ℕ) → Octets s → 12 ≤ length s → IsHeader s (headerOf s)
+unfolding headerOf
+stands s o h =
+    record {
+      whole = h;
+      id = refl;
+      reserved = bits (bigAt s 2) 16 16;
+      flags = layout s o;
+      questions = refl;
+      answers = refl;
+      authorities = refl;
+      additionals = refl;
+    }
+
+-- two headers with the same flags and the same words are one
+same-header : (g h : Header) → SameFlags g h → g .id ≡ h .id → g .questions ≡ h .questions → g .answers ≡ h .answers
+    → g .authorities ≡ h .authorities → g .additionals ≡ h .additionals → g ≡ h
+same-header g h f i q n a d =
+    let e : _≡_ {A = Header} (record {
+      id = g .id;
+      response = g .response;
+      opcode = g .opcode;
+      conflict = g .conflict;
+      truncated = g .truncated;
+      tentative = g .tentative;
+      rcode = g .rcode;
+      questions = g .questions;
+      answers = g .answers;
+      authorities = g .authorities;
+      additionals = g .additionals;
+    }) (record {
+      id = h .id;
+      response = h .response;
+      opcode = h .opcode;
+      conflict = h .conflict;
+      truncated = h .truncated;
+      tentative = h .tentative;
+      rcode = h .rcode;
+      questions = h .questions;
+      answers = h .answers;
+      authorities = h .authorities;
+      additionals = h .additionals;
+    }) = cc (f .response, f .opcode, f .conflict, f .truncated, f .tentative, f .rcode, i, q, n, a, d) in
+    e
+
+-- Octets begin with one header.
+pub one-header : (s : List ℕ) (g h : Header) → IsHeader s g → IsHeader s h → g ≡ h
+one-header s g h x y =
+    same-header g h (layout-one g h _ _ _ (x .flags) (y .flags) .0) (x .id ∙ sym (y .id)) (x .questions ∙ sym (y .questions))
+    (x .answers ∙ sym (y .answers)) (x .authorities ∙ sym (y .authorities)) (x .additionals ∙ sym (y .additionals))
+
+-- The reader finds a header exactly if one stands at the start: where each word stands, and each flag in its word.
+pub reads-a-header : (s : List ℕ) (h : Header) → Octets s → (headerAt s ≡ Good h) ↔ IsHeader s h
+reads-a-header s h o = (
+  λ e. split
+      (ltb (length s) headerOctets)
+      (λ t. let z : _≡_ {A = ℕ} 0 1 = cc (header-short s (ltb-true _ _ t)) in absurd (omega arith))
+      (λ t. subst (λ (x : Header). IsHeader s x) (header-is s h e) (stands s o (ltb-false _ _ t))),
+  λ x. header-good s (x .whole) ∙ ap Good (one-header s (headerOf s) h (stands s o (x .whole)) x),
+)

@@ -1,10 +1,10 @@
 -- The header of a message: 12 octets, big-endian words: ID, flags, QDCOUNT, ANCOUNT, NSCOUNT, ARCOUNT. Flags from the top: QR 1 bit,
 -- opcode 4, C 1, TC 1, T 1, reserved 4, RCODE 4.
-use Prim.Native.Nat.{ℕ, _+_, _*_, _/_, _%_, _<_}
+use Prim.Native.Nat.{ℕ, _+_, _*_, _/_, _%_, _<_, _≤_}
 use mathlib.Core.Path.{_≡_}
 use mathlib.Core.List.{List}
 use mathlib.Core.Bool.{Bool, cond}
-use lib.ListN.{length}
+use lib.ListN.{length, getD}
 use lib.Dec.{ltb, eqb}
 use Rattle.octets.specs.Words.{bigAt}
 use Rattle.message.specs.Bounds.{headerOctets}
@@ -51,3 +51,14 @@ pub record Layout (h : Header) (reserved word : ℕ) : Type 0 where
   pub sum : word
       ≡ bit (h .response) * 0x8000 + h .opcode * 0x800 + bit (h .conflict) * 0x400 + bit (h .truncated) * 0x200
       + bit (h .tentative) * 0x100 + reserved * 16 + h .rcode
+
+-- In plain words: twelve octets or more begin with the header h. The words stand at these octets, the first of each the more significant.
+pub record IsHeader (s : List ℕ) (h : Header) : Type 0 where
+  pub whole : 12 ≤ length s
+  pub id : h .id ≡ getD s 0 0 * 256 + getD s 1 0
+  pub reserved : ℕ
+  pub flags : Layout h reserved (getD s 2 0 * 256 + getD s 3 0)
+  pub questions : h .questions ≡ getD s 4 0 * 256 + getD s 5 0
+  pub answers : h .answers ≡ getD s 6 0 * 256 + getD s 7 0
+  pub authorities : h .authorities ≡ getD s 8 0 * 256 + getD s 9 0
+  pub additionals : h .additionals ≡ getD s 10 0 * 256 + getD s 11 0

@@ -58,7 +58,7 @@ pub record IsRecord (s : List ℕ) (at : ℕ) (r : ResourceRecord) : Type 0 wher
   pub class : r .class ≡ bigAt s (r .owner .next + 2)
   pub ttl : r .ttl ≡ bigAt s (r .owner .next + 4) * 65536 + bigAt s (r .owner .next + 6)
   pub len : r .len ≡ bigAt s (r .owner .next + 8)
-  pub start : r .start ≡ r .owner .next + fixedOctets
+  pub start : r .start ≡ r .owner .next + 10
   pub next : r .next ≡ r .start + r .len
   pub whole : r .next ≤ length s
 

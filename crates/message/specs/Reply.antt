@@ -16,7 +16,7 @@ use Rattle.message.specs.declared.Answers.{Answers}
 use Rattle.message.specs.declared.Header.{Header}
 use Rattle.message.specs.declared.ReplyHead.{ReplyHead}
 use Rattle.message.specs.declared.ResourceRecord.{ResourceRecord}
-use Rattle.message.specs.Bounds.{headerOctets, classIN, typeANY, replyTTL, ownerOctets}
+use Rattle.message.specs.Bounds.{headerOctets, classIN, typeANY, replyTTL}
 use Rattle.message.specs.Query.{countOctets}
 use Rattle.message.specs.Records.{AreRecords}
 
@@ -147,7 +147,7 @@ AreData (a ∷ rest) = IsData a × AreData rest
 -- a record r, read at an offset, is the answer a to a question about a name: its owner is one pointer, which expands to that name; its
 -- class is IN, its TTL 30 seconds
 pub record IsAnswer (s : List ℕ) (at : ℕ) (asked : List ℕ) (a : Answer) (r : ResourceRecord) : Type 0 where
-  pub owner : r .owner ≡ record { next = at + ownerOctets; len = length asked; pointers = 1 }
+  pub owner : r .owner ≡ record { next = at + 2; len = length asked; pointers = 1 }
   pub name : expandedAt s at ≡ asked
   pub rtype : r .rtype ≡ a .rtype
   pub class : r .class ≡ 1

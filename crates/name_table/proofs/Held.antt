@@ -5,11 +5,12 @@ use mathlib.Core.List.{List, [], _∷_, _++_, append-nil, append-assoc}
 use native.Mathlib.Omega.{arith}
 use lib.ListN.{length, getD, length-append}
 use Rattle.octets.specs.Octets.{Octets}
+use Rattle.octets.proofs.Tests.{split}
 use Rattle.names.specs.Names.{Labels, IsName, encode}
-use Rattle.names.specs.Folding.{foldedName}
+use Rattle.names.specs.Folding.{foldedName, sameName}
 use Rattle.names.proofs.Names.{same-labels}
 use Rattle.name_table.specs.Bounds.{mostNames, entryHead}
-use Rattle.name_table.specs.Check.{Held, Checked, noName, namesIn, good, checkTable, findName}
+use Rattle.name_table.specs.Check.{Held, Checked, noName, namesIn, good, checkTable, findFrom, findName}
 use Rattle.name_table.specs.Entries.{Entry, name, resource, dataOctets, names, Keeps, AllKeep, GoodTable, located}
 use Rattle.name_table.specs.declared.Found.the-variants.{At}
 use Rattle.name_table.proofs.Entries.{AreNames, names-append, located-length}
@@ -24,6 +25,18 @@ named-at o [] k x h = absurd (omega arith)
 named-at o (name j n ∷ es) zero x h = (x .0, refl)
 named-at o (name j n ∷ es) (suc k) x h = named-at (o + (entryHead + length (encode n))) es k (x .1) (omega arith)
 named-at o (resource d ∷ es) k x h = named-at (o + (entryHead + length (dataOctets d))) es k x h
+
+-- The number of a name that is found is below the number of names.
+found-from : (j : ℕ) (hs : List Held) (x : List ℕ) (k : ℕ) → findFrom j hs x ≡ At k → k < j + length hs
+unfolding findFrom
+found-from j [] x k e = let z : _≡_ {A = ℕ} 0 1 = cc in absurd (omega arith)
+found-from j (h ∷ hs) x k e =
+    split (sameName (h .octets) x)
+    (λ p. let f : At j ≡ At k = rw p at e in let g : j ≡ k = cc in omega arith)
+    (λ p. let f : findFrom (j + 1) hs x ≡ At k = rw p at e in omega (arith, found-from (j + 1) hs x k f))
+
+pub found-below : (hs : List Held) (x : List ℕ) (k : ℕ) → findName hs x ≡ At k → k < length hs
+found-below hs x k e = omega (arith, found-from 0 hs x k e)
 
 module _ (table : List ℕ) (hs : List Held) (o : Octets table) (e : checkTable table ≡ good hs) where
   entries-of : (t : GoodTable table) × (hs ≡ located 0 (t .entries))

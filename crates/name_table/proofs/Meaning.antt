@@ -119,7 +119,7 @@ good-iff s hs o = (to, back)
 
 -- A table is refused exactly if it is too long, then at the bound; or where good entries end and the next breaks a rule.
 pub bad-iff : (s : List ℕ) (at : ℕ) → Octets s
-    → (checkTable s ≡ bad at) ↔ (((longestTable < length s) × (at ≡ longestTable)) ⊎ ((length s ≤ longestTable) × BadEntry s at))
+    → (checkTable s ≡ bad at) ↔ (((4096 < length s) × (at ≡ 4096)) ⊎ ((length s ≤ 4096) × BadEntry s at))
 unfolding checkTable
 bad-iff s at o = (to, back)
   where

@@ -4,12 +4,10 @@ use mathlib.Core.Path.{_≡_}
 use mathlib.Core.List.{List, [], _∷_, _++_}
 use mathlib.Core.Logic.{_⊎_}
 use lib.ListN.{length, getD}
-use Rattle.octets.specs.Bounds.{usedBy4, usedBy6}
 use Rattle.octets.specs.Octets.{Octets}
 use Rattle.octets.specs.Words.{littleOctets}
 use Rattle.names.specs.Names.{Labels, IsName, encode}
 use Rattle.names.specs.Folding.{foldedName}
-use Rattle.name_table.specs.Bounds.{longestTable, mostNames, mostRecords, entryHead, typeA, typePTR, typeAAAA}
 use Rattle.name_table.specs.Check.{lengthAt, kindAt, bodyAt, Held}
 
 pub data NameKind : Type 0 where
@@ -40,9 +38,9 @@ dataOctets (aaaa o) = o
 dataOctets (ptr n) = encode n
 
 abbrev pub dataType : Data → ℕ
-dataType (a o) = typeA
-dataType (aaaa o) = typeAAAA
-dataType (ptr n) = typePTR
+dataType (a o) = 1
+dataType (aaaa o) = 28
+dataType (ptr n) = 12
 
 abbrev pub body : Entry → List ℕ
 body (name k n) = encode n
@@ -50,7 +48,7 @@ body (resource d) = dataOctets d
 
 -- length of the whole entry, kind, body
 abbrev pub entryOctets : Entry → List ℕ
-entryOctets e = littleOctets (entryHead + length (body e)) ++ littleOctets (kind e) ++ body e
+entryOctets e = littleOctets (4 + length (body e)) ++ littleOctets (kind e) ++ body e
 
 abbrev pub tableOctets : List Entry → List ℕ
 tableOctets [] = []
@@ -80,21 +78,21 @@ New (m ∷ ms) n = (foldedName m ≡ foldedName n → ⊥) × New ms n
 pub record NameRules (before : List Entry) (n : Labels) : Type 0 where
   pub is-name : IsName n
   pub not-root : n ≡ [] → ⊥
-  pub eight-names : length (names before) < mostNames
+  pub eight-names : length (names before) < 8
   pub new : New (names before) n
 
 -- the rules for any record after the entries `before`
 pub record RecordRules (before : List Entry) : Type 0 where
   pub has-owner : 1 ≤ length (names before)
-  pub few-records : records before < mostRecords
+  pub few-records : records before < 24
 
 pub record AddressRules (n : ℕ) (o : List ℕ) : Type 0 where
   pub size : length o ≡ n
   pub octets : Octets o
 
 abbrev pub DataRules : Data → Type 0
-DataRules (a o) = AddressRules usedBy4 o
-DataRules (aaaa o) = AddressRules usedBy6 o
+DataRules (a o) = AddressRules 4 o
+DataRules (aaaa o) = AddressRules 16 o
 DataRules (ptr n) = IsName n
 
 abbrev pub Keeps : List Entry → Entry → Type 0
@@ -111,7 +109,7 @@ pub record GoodTable (s : List ℕ) : Type 0 where
   pub entries : List Entry
   pub keep : AllKeep [] entries
   pub octets : s ≡ tableOctets entries
-  pub size : length s ≤ longestTable
+  pub size : length s ≤ 4096
 
 -- no entry that keeps the rules stands at the start of s
 abbrev pub NoEntry : List Entry → List ℕ → Type 0
@@ -119,20 +117,20 @@ NoEntry before s = (e : Entry) (r : List ℕ) → Keeps before e → s ≡ entry
 
 -- The rule that the entry at the start of s breaks, after the entries `before`.
 pub data Breaks (before : List Entry) (s : List ℕ) : Type 0 where
-  cut-short : length s < entryHead → Breaks before s
-  length-below-head : lengthAt s < entryHead → Breaks before s
+  cut-short : length s < 4 → Breaks before s
+  length-below-head : lengthAt s < 4 → Breaks before s
   past-the-end : length s < lengthAt s → Breaks before s
   kind-zero : kindAt s ≡ 0 → Breaks before s
   kind-above-5 : 5 < kindAt s → Breaks before s
   not-a-name : (kindAt s ≤ 2) ⊎ (kindAt s ≡ 5) → ((n : Labels) → IsName n → bodyAt s ≡ encode n → ⊥) → Breaks before s
-  not-4-octets : kindAt s ≡ 3 → (length (bodyAt s) ≡ usedBy4 → ⊥) → Breaks before s
-  not-16-octets : kindAt s ≡ 4 → (length (bodyAt s) ≡ usedBy6 → ⊥) → Breaks before s
+  not-4-octets : kindAt s ≡ 3 → (length (bodyAt s) ≡ 4 → ⊥) → Breaks before s
+  not-16-octets : kindAt s ≡ 4 → (length (bodyAt s) ≡ 16 → ⊥) → Breaks before s
   root-name : kindAt s ≤ 2 → bodyAt s ≡ encode [] → Breaks before s
-  too-many-names : kindAt s ≤ 2 → mostNames ≤ length (names before) → Breaks before s
+  too-many-names : kindAt s ≤ 2 → 8 ≤ length (names before) → Breaks before s
   equal-name : kindAt s ≤ 2 → (n : Labels) (i : ℕ) → IsName n → bodyAt s ≡ encode n → i < length (names before)
       → foldedName (getD (names before) i []) ≡ foldedName n → Breaks before s
   no-owner : 3 ≤ kindAt s → names before ≡ [] → Breaks before s
-  too-many-records : 3 ≤ kindAt s → mostRecords ≤ records before → Breaks before s
+  too-many-records : 3 ≤ kindAt s → 24 ≤ records before → Breaks before s
 
 -- good entries end at an offset, and the entry there breaks a rule
 pub record BadEntry (s : List ℕ) (at : ℕ) : Type 0 where
@@ -148,9 +146,9 @@ pub record BadEntry (s : List ℕ) (at : ℕ) : Type 0 where
 abbrev pub located : ℕ → List Entry → List Held
 located o [] = []
 located o (name k n ∷ es) =
-    record { kind = kind (name k n); start = o + entryHead; end = o + (entryHead + length (encode n)); octets = encode n }
-    ∷ located (o + (entryHead + length (encode n))) es
-located o (resource d ∷ es) = located (o + (entryHead + length (dataOctets d))) es
+    record { kind = kind (name k n); start = o + 4; end = o + (4 + length (encode n)); octets = encode n }
+    ∷ located (o + (4 + length (encode n))) es
+located o (resource d ∷ es) = located (o + (4 + length (dataOctets d))) es
 
 -- the records at the start of some entries, up to the next name
 abbrev pub leading : List Entry → List Data

@@ -5,11 +5,10 @@ use mathlib.Core.Path.{_≡_}
 use mathlib.Core.List.{List, [], _∷_, _++_}
 use lib.ListN.{length, take, drop}
 use Rattle.octets.specs.Octets.{Octets}
-use Rattle.names.specs.Bounds.{longestLabel, longestName}
 
 pub record IsLabel (l : List ℕ) : Type 0 where
   pub some : 1 ≤ length l
-  pub short : length l ≤ longestLabel
+  pub short : length l ≤ 63
   pub octets : Octets l
 
 abbrev pub Labels : Type 0
@@ -26,7 +25,7 @@ encode (l ∷ n) = length l ∷ (l ++ encode n)
 
 pub record IsName (n : Labels) : Type 0 where
   pub labels : AreLabels n
-  pub short : length (encode n) ≤ longestName
+  pub short : length (encode n) ≤ 255
 
 -- the octets xs stand in s at an offset
 abbrev pub Stand : List ℕ → ℕ → List ℕ → Type 0

@@ -2,12 +2,11 @@
 -- pointer is two octets, the top two bits set and the other 14 its target; the target is at least 12 and below the offset where the
 -- current run of labels began, which is the name's own offset or the last target. At most 16 are followed, and the expanded name,
 -- the labels joined, has at most 255 octets.
-use Prim.Native.Nat.{ℕ, _+_, _*_, _<_, _≤_}
+use Prim.Native.Nat.{ℕ, _+_, _<_, _≤_}
 use mathlib.Core.Path.{_≡_}
 use mathlib.Core.List.{List, [], _∷_}
 use lib.ListN.{length}
 use Rattle.octets.specs.Words.{bigAt}
-use Rattle.names.specs.Bounds.{longestName, mostPointers, leastTarget, pointerMark}
 use Rattle.names.specs.Names.{IsLabel, Labels, encode, Stand}
 use Rattle.names.specs.declared.RecordName.{RecordName}
 
@@ -18,8 +17,8 @@ pub data Step : Type 0 where
 -- a pointer stands in s at an offset, in a run of labels that began at `run`
 pub record IsPointer (s : List ℕ) (at run to : ℕ) : Type 0 where
   pub inside : at + 1 < length s
-  pub word : bigAt s at ≡ pointerMark * 256 + to
-  pub after-header : leastTarget ≤ to
+  pub word : bigAt s at ≡ 0xC000 + to
+  pub after-header : 12 ≤ to
   pub backwards : to < run
 
 -- the steps are those met from an offset on
@@ -51,5 +50,5 @@ pub record ReadingAt (s : List ℕ) (at : ℕ) (r : RecordName) : Type 0 where
   pub next-is : r .next ≡ after at steps
   pub len-is : r .len ≡ length (encode (labels steps))
   pub pointers-are : r .pointers ≡ pointers steps
-  pub short : r .len ≤ longestName
-  pub few : r .pointers ≤ mostPointers
+  pub short : r .len ≤ 255
+  pub few : r .pointers ≤ 16

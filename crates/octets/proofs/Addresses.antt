@@ -14,7 +14,7 @@ use Rattle.octets.proofs.Tests.{split, both, either, either-way, never,
 use Rattle.octets.specs.Bounds.{ipv4, usedBy6, interfaces}
 use Rattle.octets.specs.declared.Address.{Address}
 use Rattle.octets.specs.declared.Setting.{Setting}
-use Rattle.octets.specs.Addresses.{Below, isFamily, usedOctets, sameOctets, belowOctets, sameAddress, belowAddress, group6, groupOf, isGroup, groupEndpoint, hasAddress, unused, oursAmong, isOurs}
+use Rattle.octets.specs.Addresses.{Below, isFamily, usedOctets, sameOctets, belowOctets, sameAddress, belowAddress, groupOf, isGroup, groupEndpoint, hasAddress, unused, oursAmong, isOurs}
 
 -- ---- the same
 
@@ -158,7 +158,8 @@ unfolding groupOf
 group-4 a e = let p : eqb (a .family) ipv4 ≡ true = eq-eqb _ _ e in rw p at (group-used a (rw p))
 
 -- FF02::1:3
-pub group-6 : (a : Address) → a .family ≡ 6 → length (a .octets) ≡ 16 → (isGroup a ≡ true) ↔ (a .octets ≡ group6)
+pub group-6 : (a : Address) → a .family ≡ 6 → length (a .octets) ≡ 16
+    → (isGroup a ≡ true) ↔ (a .octets ≡ 0xFF ∷ 0x02 ∷ 0 ∷ 0 ∷ 0 ∷ 0 ∷ 0 ∷ 0 ∷ 0 ∷ 0 ∷ 0 ∷ 0 ∷ 0 ∷ 0x01 ∷ 0 ∷ 0x03 ∷ [])
 unfolding groupOf
 group-6 a e l =
     let n : a .family ≡ ipv4 → ⊥ = λ f. omega arith in

@@ -32,7 +32,8 @@ pub fn part(s: &[u8], a: usize, e: usize) -> &[u8]
     &s[a..e]
 }
 
-fn octet(s: &[u8], at: usize) -> u8
+// The octet at an offset.
+pub fn octet(s: &[u8], at: usize) -> u8
     ensures { λ r. ⌜ r ≡ octetAt (now (s .entry)) at ⌝ }
 {
     if at < s.len() { s[at] } else { 0 }

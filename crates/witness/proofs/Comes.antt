@@ -102,6 +102,7 @@ module _ (h : Host) (i k : ℕ) (p : Place h i k) (s : NameState) (time : ℕ) w
               interface = omega (arith, p .interface, length-set (h .interfaces) i changed);
               name = subst (λ (x : Interface). k < length (x .names)) (sym here) (omega (arith, p .name, length-set (interfaceOf h i .names) k (record { state = s })));
             };
+        many = ap (λ (x : Interface). length (x .names)) here ∙ length-set (interfaceOf h i .names) k (record { state = s });
         clock = refl;
       }
 

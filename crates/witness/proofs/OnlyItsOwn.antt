@@ -47,6 +47,10 @@ found es k n rs o =
     (subst (λ (j : ℕ). Found (o .before ++ (Entry.name (o .kind) n ∷ (map resource rs ++ o .after))) j n rs) (o .number)
     (there (o .before) (o .kind) n rs (o .after) (o .until)))
 
+-- the records of the k-th name are determined
+pub owns-one : (es : List Entry) (k : ℕ) (n m : Labels) (rs ss : List Data) → Owns es k n rs → Owns es k m ss → rs ≡ ss
+owns-one es k n m rs ss o p = sym (found es k n rs o .records-are) ∙ found es k m ss p .records-are
+
 module _ (h : Host) (a : Arrival) (w : RepliesWhen h a) (o : Octets (a .datagram)) (ot : Octets (a .table)) (t : GoodTable (a .table))
     (x : Labels) (i : IsName x) (e : partOf (a .datagram) 12 (12 + w .q .name) ≡ encode x) where
   r : ReplyFrom h a (w .q) (w .k) (t .entries) (receive h a)

@@ -1,28 +1,36 @@
--- The host's own addresses and those below an interface's, in the plain words of specs/States.antt.
-use Prim.Native.Nat.{ℕ, zero, suc}
+-- The groups' addresses, the host's own and those below an interface's, in the plain words of specs/States.antt.
 use mathlib.Core.Path.{_≡_, refl, sym, _∙_, subst}
 use mathlib.Core.Logic.{_↔_, inl, inr, ⊎-elim}
-use mathlib.Core.List.{List, [], _∷_}
 use mathlib.Core.Bool.{true}
-use lib.ListN.{getD}
-use Rattle.octets.specs.Addresses.{unused, addressOf, belowAddress, hasAddress}
+use Rattle.octets.specs.Addresses.{addressOf, groupOf, isGroup, belowAddress, hasAddress}
 use Rattle.octets.specs.declared.Address.{Address}
 use Rattle.octets.specs.declared.Setting.{Setting}
 use Rattle.octets.proofs.Addresses.{same-address, below-address, ours}
 use Rattle.octets.proofs.Tests.{both, either-number}
-use Rattle.host.specs.State.{absent, isOwn, settingOf, settingsOf}
+use Rattle.host.specs.State.{isOwn, settingOf, settingsOf}
 use Rattle.host.specs.ExactlyWhen.{IsUsed}
 use Rattle.host.specs.Receive.{Arrival}
-use Rattle.host.specs.declared.Interface.{Interface}
 use Rattle.host.specs.declared.Host.{Host}
-use Rattle.witness.specs.States.{IsOf, is-4, is-6, Ours, FromBelow, below-4, below-6}
+use Rattle.host.proofs.Laws.{setting-there}
+use Rattle.witness.specs.States.{IsGroup, is-group-4, is-group-6, IsOf, is-4, is-6, Ours, FromBelow, below-4, below-6}
+
+-- ---- a group's
+
+pub group-address : (x : Address) → (isGroup x ≡ true) ↔ IsGroup x
+unfolding isGroup groupOf
+group-address x = (there, back)
+  where
+    there : isGroup x ≡ true → IsGroup x
+    there e =
+        let t = both _ _ .0 e in
+        let o = same-address x (groupOf (x .family)) .0 (t .1) .1 in
+        ⊎-elim (λ f. is-group-4 f (rw f at o)) (λ f. is-group-6 f (rw f at o)) (either-number _ 4 6 .0 (t .0))
+
+    back : IsGroup x → isGroup x ≡ true
+    back (is-group-4 f o) = both _ _ .1 (either-number _ 4 6 .1 (inl f), same-address x (groupOf (x .family)) .1 (refl, rw f o))
+    back (is-group-6 f o) = both _ _ .1 (either-number _ 4 6 .1 (inr f), same-address x (groupOf (x .family)) .1 (refl, rw f o))
 
 -- ---- our own
-
-setting-there : (l : List Interface) (i : ℕ) → getD (settingsOf l) i unused ≡ getD l i absent .setting
-setting-there [] i = refl
-setting-there (x ∷ l) zero = refl
-setting-there (x ∷ l) (suc i) = setting-there l i
 
 has-is : (s : Setting) (x : Address) → (hasAddress s x ≡ true) ↔ IsOf s x
 unfolding hasAddress

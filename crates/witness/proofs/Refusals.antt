@@ -29,6 +29,7 @@ use Rattle.host.specs.declared.NameState.the-variants.{Off, Verifying, Unique, 
 use Rattle.host.specs.declared.Host.{Host}
 use Rattle.host.proofs.Conditions.{not-off, not-stopped}
 use Rattle.witness.specs.Refusals.{Case, case, case-at, First, IsBadSetting, setUpCases, earlyCases, startCases, tickCases}
+use Rattle.witness.proofs.Ours.{group-address}
 
 -- ---- checks and cases
 
@@ -138,7 +139,7 @@ early-exactly h table i time out f =
 -- ---- set-up
 
 setting-is : (s : Setting) → (badSetting s ≡ true) ↔ IsBadSetting s
-setting-is s = both-is _ _ (either-number _ 4 6) (either-is _ _ (λ e. e, λ e. e) (neither-number _ 100 1000))
+setting-is s = both-is _ _ (either-number _ 4 6) (either-is _ _ (group-address _) (neither-number _ 100 1000))
 
 bad-among : (n : ℕ) (settings : List Setting) → (badAmong n settings ≡ true) ↔ ((i : ℕ) × (i < n) × IsBadSetting (getD settings i unused))
 unfolding badAmong

@@ -18,16 +18,16 @@ use Rattle.message.specs.declared.QuestionRead.{QuestionRead}
 use Rattle.message.specs.declared.QuestionRead.the-variants.{Good, Bad}
 use Rattle.message.specs.Header.{headerOf}
 use Rattle.message.specs.Question.{questionAt, questionOr, isBadQuestion}
-use Rattle.host.specs.State.{stateOf, off, unique, stopped, is}
+use Rattle.host.specs.State.{settingOf, stateOf, off, unique, stopped, is}
 use Rattle.host.specs.Outcomes.{refused, isRefused}
-use Rattle.host.specs.Receive.{Arrival, header, question, found, nameNumber, state, notOurs, unmatched, badLength, badAddress, receiveChecks, Decision, answer, defend, stop, keep, decision, effect, receiveIf, receive}
-use Rattle.host.specs.ExactlyWhen.{WaitsFor}
+use Rattle.host.specs.Receive.{Arrival, header, question, found, nameNumber, state, notOurs, awaits, unmatched, badLength, badAddress, receiveChecks, Decision, answer, defend, stop, keep, decision, effect, receiveIf, receive}
 use Rattle.host.specs.declared.NameState.{NameState}
-use Rattle.host.specs.declared.NameState.the-variants.{Off, Unique, Stopped}
+use Rattle.host.specs.declared.NameState.the-variants.{Off, Verifying, Unique, Defending, Stopped, Shared}
 use Rattle.host.specs.declared.Host.{Host}
 use Rattle.host.proofs.Conditions.{question-good, is-off, is-stopped, is-unique, waits-is}
-use Rattle.witness.specs.Refusals.{Case, First, OfQuestion, IsFor, IsForNone, IsBadLength, IsBadAddress, queryCases, responseCases, receiveCases}
+use Rattle.witness.specs.Refusals.{Case, First, IsAwaited, OfQuestion, IsFor, IsForNone, IsBadLength, IsBadAddress, queryCases, responseCases, receiveCases}
 use Rattle.witness.proofs.Refusals.{Exactly, ends, check, skip, refused-by, not-true, not-is, unlike-number, neither-number, either-is, both-is, early-exactly}
+use Rattle.witness.proofs.Ours.{group-address, ours-is}
 
 -- ---- tests, plainly
 
@@ -54,6 +54,15 @@ none-or (At k) b P i = (
 )
 none-or Nothing b P i = (λ e. inl refl, λ x. refl)
 
+-- a name waits for a response
+pub awaited-is : (a : Arrival) (q : Question) (s : NameState) → (awaits s (header a .id) (q .qtype) (q .class) ≡ true) ↔ IsAwaited a q s
+awaited-is a q Off = waits-is Off (header a .id) (q .qtype) (q .class)
+awaited-is a q (Verifying sends own timer) = waits-is (Verifying sends own timer) (header a .id) (q .qtype) (q .class)
+awaited-is a q Unique = waits-is Unique (header a .id) (q .qtype) (q .class)
+awaited-is a q (Defending own qtype class timer) = waits-is (Defending own qtype class timer) (header a .id) (q .qtype) (q .class)
+awaited-is a q Stopped = waits-is Stopped (header a .id) (q .qtype) (q .class)
+awaited-is a q Shared = waits-is Shared (header a .id) (q .qtype) (q .class)
+
 module _ (h : Host) (a : Arrival) where
   abbrev here : ℕ → NameState
   here k = stateOf h (a .interface) k
@@ -71,10 +80,10 @@ module _ (h : Host) (a : Arrival) where
         (subst (λ (q : Question). c (x .0) q) (sym (ap questionOr (x .3))) (x .4)),
   )
 
-  length-is : (badLength a ≡ true) ↔ IsBadLength a
+  length-is : (badLength (a .datagram) ≡ true) ↔ IsBadLength a
   length-is = either-is _ _ (below-number _ _) (below-number _ _)
 
-  address-is : {c : Type 0} → (cond (header a .response) (isGroup (a .to)) (not (isGroup (a .to))) ≡ true) ↔ c → (badAddress h a ≡ true) ↔ IsBadAddress h a c
+  address-is : {c : Type 0} → (cond (header a .response) (isGroup (a .to)) (not (isGroup (a .to))) ≡ true) ↔ c → (badAddress (settingOf h (a .interface) .family) (a .from .address .family) (a .to) (header a .response) ≡ true) ↔ IsBadAddress h a c
   address-is i = either-is _ _ (unlike-number _ _) (either-is _ _ (unlike-number _ _) i)
 
   -- the result is a refusal exactly if the verdict is
@@ -99,12 +108,12 @@ module _ (h : Host) (a : Arrival) where
         (of-question g r (λ hs q. IsForNone a hs q ⊎ ((k : ℕ) × IsFor a hs q k × (here k ≡ Off))))
 
     unmatched-is : (unmatched h a ≡ true)
-        ↔ OfQuestion a (λ hs q. IsForNone a hs q ⊎ ((k : ℕ) × IsFor a hs q k × (WaitsFor (here k) (header a .id) (q .qtype) (q .class) → ⊥)))
+        ↔ OfQuestion a (λ hs q. IsForNone a hs q ⊎ ((k : ℕ) × IsFor a hs q k × (IsAwaited a q (here k) → ⊥)))
     unmatched-is =
         Iff·trans
-        (none-or (found a) _ (λ k. WaitsFor (here k) (header a .id) (question a .qtype) (question a .class) → ⊥)
-        (Iff·trans (not-true _) (not-is _ (waits-is (state h a) (header a .id) (question a .qtype) (question a .class)))))
-        (of-question g r (λ hs q. IsForNone a hs q ⊎ ((k : ℕ) × IsFor a hs q k × (WaitsFor (here k) (header a .id) (q .qtype) (q .class) → ⊥))))
+        (none-or (found a) _ (λ k. IsAwaited a (question a) (here k) → ⊥)
+        (Iff·trans (not-true _) (not-is _ (awaited-is a (question a) (state h a)))))
+        (of-question g r (λ hs q. IsForNone a hs q ⊎ ((k : ℕ) × IsFor a hs q k × (IsAwaited a q (here k) → ⊥))))
 
     module _ (f : isFound (found a) ≡ true) where
       stopped-is : (is stopped (state h a) ≡ true) ↔ OfQuestion a (λ hs q. (k : ℕ) × IsFor a hs q k × (here k ≡ Stopped))
@@ -129,7 +138,7 @@ module _ (h : Host) (a : Arrival) where
           (λ hs gs.
           let g : checkTable (a .table) ≡ good names = rw gs in
           check _ 5 length-is
-          (λ e5. check _ 6 (address-is (rw e (not-true _)))
+          (λ e5. check _ 6 (address-is (rw e (Iff·trans (not-true _) (not-is _ (group-address _)))))
           (λ e6. check _ 7 (unlike-number _ _)
           (λ e7. skip _ _ (rw e)
           (check _ 9 (either-is _ _ (unlike-number _ _) (rw e (either-is _ _ (unlike-number _ _) (unlike-number _ _))))
@@ -143,7 +152,7 @@ module _ (h : Host) (a : Arrival) where
           (λ e12.
           let f = only-first _ _ .0 e12 .0 in
           check _ 13 (stopped-is g r f)
-          (λ e13. check _ 14 (both-is _ _ Iff·rfl (either-is _ _ (not-unique-is g r f) Iff·rfl))
+          (λ e13. check _ 14 (both-is _ _ Iff·rfl (either-is _ _ (not-unique-is g r f) (ours-is h _)))
           (λ e14. ends))))))))))))
 
   -- A response: 1 to 10, 15, 16.
@@ -156,7 +165,7 @@ module _ (h : Host) (a : Arrival) where
           (λ hs gs.
           let g : checkTable (a .table) ≡ good names = rw gs in
           check _ 5 length-is
-          (λ e5. check _ 6 (address-is (rw e Iff·rfl))
+          (λ e5. check _ 6 (address-is (rw e (group-address _)))
           (λ e6. check _ 7 (unlike-number _ _)
           (λ e7. check _ 8 (rw e (unlike-number _ _))
           (λ e8. check _ 9 (only _ _ (rw e) (unlike-number _ _))
@@ -164,7 +173,7 @@ module _ (h : Host) (a : Arrival) where
           (λ e10. skip _ _ (rw e)
           (rw e
           (check _ 15 (unmatched-is g (question-good _ e10))
-          (λ e15. check _ 16 Iff·rfl
+          (λ e15. check _ 16 (ours-is h _)
           (λ e16. ends)))))))))))
 
   -- Receive: the one or the other.

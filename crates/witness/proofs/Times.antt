@@ -1,7 +1,7 @@
 -- The ticks of the table of specs/States.antt; that a check is due exactly an interval after its last send; and what a refused set-up gives.
 use Prim.Native.Nat.{ℕ, zero, suc, _+_, _<_, _≤_}
 use mathlib.Core.Path.{_≡_, refl, sym, ap, _∙_, subst}
-use mathlib.Core.Logic.{_⊎_, ⊎-elim}
+use mathlib.Core.Logic.{_↔_, Iff·rfl, _⊎_, ⊎-elim}
 use mathlib.Core.List.{List, [], _∷_}
 use mathlib.Core.Bool.{true}
 use native.Mathlib.Omega.{arith}
@@ -12,35 +12,62 @@ use Rattle.octets.specs.Octets.{Octets}
 use Rattle.octets.specs.declared.Setting.{Setting}
 use Rattle.octets.proofs.Tests.{split}
 use Rattle.refusal.specs.Numbers.{Report}
-use Rattle.name_table.specs.Check.{Held, noName}
+use Rattle.refusal.specs.Checks.{pass, Clear}
+use Rattle.name_table.specs.Check.{Held, good, noName, checkTable, namesIn}
 use Rattle.message.specs.declared.Question.{Question}
 use Rattle.message.specs.Header.{headerOf}
 use Rattle.host.specs.State.{settingOf, stateOf}
 use Rattle.host.specs.Outcomes.{Done, refused, ready, quiet, unique as uniqueName}
 use Rattle.host.specs.SetUp.{setUp}
 use Rattle.host.specs.Start.{start}
-use Rattle.host.specs.Tick.{tick}
+use Rattle.host.specs.Early.{early}
+use Rattle.host.specs.Laws.{Accepted}
+use Rattle.host.specs.Tick.{tickIf, tick}
 use Rattle.host.specs.Receive.{Arrival, receive}
 use Rattle.host.specs.ExactlyWhen.{CalledWell, QueryArrives, AsksFor, stateHere}
 use Rattle.host.specs.Served.{ReadyWhen, DueBy, ServesWhen, HasAsked}
 use Rattle.host.specs.declared.NameState.{NameState}
 use Rattle.host.specs.declared.NameState.the-variants.{Off, Verifying, Unique, Defending, Stopped, Shared}
 use Rattle.host.specs.declared.Host.{Host}
+use Rattle.host.proofs.Called.{called-is}
 use Rattle.host.proofs.Started.{sets-up}
 use Rattle.host.proofs.Ticked.{tick-rests, tick-settles, tick-asks}
 use Rattle.host.proofs.Laws.{set-up-refused}
-use Rattle.witness.specs.States.{Interval, short, long, Place, Leaves, Moves, Becomes, Asks, checkOf, First, Alone, VerifyingTicks, Ticks, dueAt, nothing, Ours, UniqueStarts, Notification, WaitsUntil, verifying, defending, Serves, asks-again, settles, DueExactly, zeros, hostOf}
+use Rattle.witness.specs.States.{Interval, short, long, Place, Leaves, Moves, Becomes, Asks, checkOf, IsDue, First, Alone, VerifyingTicks, Ticks, dueAt, nothing, Ours, UniqueStarts, Notification, WaitsUntil, verifying, defending, Serves, asks-again, settles, DueExactly, zeros, hostOf}
 use Rattle.witness.proofs.Comes.{interval-is, leaves, becomes, asks-check}
 use Rattle.witness.proofs.States.{unique-starts, notification}
+use Rattle.witness.proofs.Whole.{passed-all}
 
 -- ---- ticks
+
+-- what an accepted tick has passed, and what it has been given
+tick-checked : (h : Host) (table : List ℕ) (i time id : ℕ) (out : List ℕ) → Accepted (tick h table i time id out) → Clear (early h table i time out pass)
+unfolding tick
+tick-checked h table i time id out a = passed-all (λ v. tickIf v h table i time out) (λ t. refl) (early h table i time out pass) a
+
+pub tick-called : (h : Host) (table : List ℕ) (i time id : ℕ) (out : List ℕ) → Accepted (tick h table i time id out) → (names : List Held)
+    → checkTable table ≡ good names → CalledWell h table i time out names
+tick-called h table i time id out a names g =
+    subst (CalledWell h table i time out) (ap namesIn g) (called-is h table i time out pass (tick-checked h table i time id out a))
+
+pub tick-good : (h : Host) (table : List ℕ) (i time id : ℕ) (out : List ℕ) → Accepted (tick h table i time id out)
+    → checkTable table ≡ good (namesIn (checkTable table))
+tick-good h table i time id out a = called-is h table i time out pass (tick-checked h table i time id out a) .good-table
+
+pub due-by : (s : NameState) (time : ℕ) → DueBy s time ↔ IsDue s time
+due-by Off time = Iff·rfl
+due-by (Verifying sends id timer) time = Iff·rfl
+due-by Unique time = Iff·rfl
+due-by (Defending id qtype class timer) time = Iff·rfl
+due-by Stopped time = Iff·rfl
+due-by Shared time = Iff·rfl
 
 module _ (h : Host) (table : List ℕ) (names : List Held) (i k time id : ℕ) (out : List ℕ) (called : CalledWell h table i time out names) where
   abbrev name : List ℕ
   name = getD names k noName .octets
 
   -- the k-th name is not due, and no other
-  rests : Alone h i k (length names) time → (DueBy (stateOf h i k) time → ⊥) → Leaves h time out quiet (tick h table i time id out)
+  rests : Alone h i k (length names) time → (IsDue (stateOf h i k) time → ⊥) → Leaves h time out quiet (tick h table i time id out)
   rests alone n =
       leaves h time out quiet _
       (tick-rests h table i time out id
@@ -49,23 +76,24 @@ module _ (h : Host) (table : List ℕ) (names : List Held) (i k time id : ℕ) (
         called = called;
         none =
             λ j l w.
+            let due = due-by (stateOf h i j) time .0 w in
             split (eqb j k)
-            (λ e. n (subst (λ (m : ℕ). DueBy (stateOf h i m) time) (eqb-true j k e) w))
-            (λ e. alone j l (eqb-false j k e) w);
+            (λ e. n (subst (λ (m : ℕ). IsDue (stateOf h i m) time) (eqb-true j k e) due))
+            (λ e. alone j l (eqb-false j k e) due);
       }))
 
   module _ (in-table : k < length names) (p : Place h i k) where
-    serves : First h i k time → DueBy (stateOf h i k) time → ServesWhen h table i time out k
+    serves : First h i k time → IsDue (stateOf h i k) time → ServesWhen h table i time out k
     serves first w =
         record {
           names = names;
           called = called;
           in-table = in-table;
-          due = w;
-          first = first;
+          due = due-by (stateOf h i k) time .1 w;
+          first = λ j l u. first j l (due-by (stateOf h i j) time .0 u);
         }
 
-    settled : First h i k time → DueBy (stateOf h i k) time → HasAsked (stateOf h i k) → Becomes h i k Unique time out (uniqueName k) (tick h table i time id out)
+    settled : First h i k time → IsDue (stateOf h i k) time → HasAsked (stateOf h i k) → Becomes h i k Unique time out (uniqueName k) (tick h table i time id out)
     settled first w e = becomes h i k p Unique time out (uniqueName k) _ (tick-settles h table i time out id k (record { serves = serves first w; has-asked = e }))
 
     -- Each of the six states: before its due time a name is left as it is, and from then on it is served; four are never due.
@@ -73,11 +101,11 @@ module _ (h : Host) (table : List ℕ) (names : List Held) (i k time id : ℕ) (
         → Ticks h i k (length names) n time (getD names k noName .octets) out (stateOf h i k) (tick h table i time id out)
     ticks n o v first = go (stateOf h i k) refl
       where
-        idle : (s : NameState) → stateOf h i k ≡ s → (DueBy s time → ⊥) → Alone h i k (length names) time → Leaves h time out quiet (tick h table i time id out)
-        idle s e f alone = rests alone (λ w. f (subst (λ (x : NameState). DueBy x time) e w))
+        idle : (s : NameState) → stateOf h i k ≡ s → (IsDue s time → ⊥) → Alone h i k (length names) time → Leaves h time out quiet (tick h table i time id out)
+        idle s e f alone = rests alone (λ w. f (subst (λ (x : NameState). IsDue x time) e w))
 
-        over : (s : NameState) → stateOf h i k ≡ s → DueBy s time → HasAsked s → Becomes h i k Unique time out (uniqueName k) (tick h table i time id out)
-        over s e w f = settled first (subst (λ (x : NameState). DueBy x time) (sym e) w) (subst HasAsked (sym e) f)
+        over : (s : NameState) → stateOf h i k ≡ s → IsDue s time → HasAsked s → Becomes h i k Unique time out (uniqueName k) (tick h table i time id out)
+        over s e w f = settled first (subst (λ (x : NameState). IsDue x time) (sym e) w) (subst HasAsked (sym e) f)
 
         go : (s : NameState) → stateOf h i k ≡ s → Ticks h i k (length names) n time name out s (tick h table i time id out)
         go Off e = idle _ e (λ z. z)
@@ -89,7 +117,7 @@ module _ (h : Host) (table : List ℕ) (names : List Held) (i k time id : ℕ) (
                   subst (λ (m : ℕ). Asks h i k (Verifying (sends + 1) own (dueAt (time + m))) time (checkOf own name) out (tick h table i time id out)) (interval-is h i n v)
                   (asks-check h i k p _ time own table names out _ o called in-table
                   (tick-asks h table i time out id k sends own timer
-                  (record { serves = serves first (subst (λ (x : NameState). DueBy x time) (sym e) w); verifying = e; few = l })));
+                  (record { serves = serves first (subst (λ (x : NameState). IsDue x time) (sym e) w); verifying = e; few = l })));
               then = λ w l. over _ e w l;
             }
         go Unique e = idle _ e (λ z. z)
@@ -120,20 +148,20 @@ pub due-exactly : (h : Host) (table : List ℕ) (names : List Held) (i k n sent 
     → k < length names → WaitsUntil (sent + n) s → DueExactly table names i k n sent d
 due-exactly h table names i k n sent s d o v m in-table (verifying sends own) =
     record {
-      quiet-before = λ time id out c a l. next-tick h table names i k n sent s d o v m time id out c in-table (lower (d .host) i k (length names) time in-table a) .before (omega arith) a;
+      quiet-before = λ time id out g c a l. next-tick h table names i k n sent s d o v m time id out (tick-called (d .host) table i time id out c names g) in-table (lower (d .host) i k (length names) time in-table a) .before (omega arith) a;
       serves-then =
-          λ time id out c a l.
-          let t = next-tick h table names i k n sent s d o v m time id out c in-table a in
+          λ time id out g c a l.
+          let t = next-tick h table names i k n sent s d o v m time id out (tick-called (d .host) table i time id out c names g) in-table a in
           split (ltb sends 3)
           (λ e. let r = t .again l (ltb-true sends 3 e) in subst (Serves k) (sym (r .result)) (asks-again _))
           (λ e. let r = t .then l (ltb-false sends 3 e) in subst (Serves k) (sym (r .result)) settles);
     }
 due-exactly h table names i k n sent s d o v m in-table (defending own qtype class) =
     record {
-      quiet-before = λ time id out c a l. next-tick h table names i k n sent s d o v m time id out c in-table (lower (d .host) i k (length names) time in-table a) .before (omega arith) a;
+      quiet-before = λ time id out g c a l. next-tick h table names i k n sent s d o v m time id out (tick-called (d .host) table i time id out c names g) in-table (lower (d .host) i k (length names) time in-table a) .before (omega arith) a;
       serves-then =
-          λ time id out c a l.
-          let r = next-tick h table names i k n sent s d o v m time id out c in-table a .then l in
+          λ time id out g c a l.
+          let r = next-tick h table names i k n sent s d o v m time id out (tick-called (d .host) table i time id out c names g) in-table a .then l in
           subst (Serves k) (sym (r .result)) settles;
     }
 

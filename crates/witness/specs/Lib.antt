@@ -3,3 +3,4 @@ pub mod Replies
 pub mod SameReply
 pub mod States
 pub mod Determined
+pub mod Whole

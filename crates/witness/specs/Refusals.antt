@@ -4,10 +4,10 @@ use Prim.Native.Nat.{ℕ, _+_, _<_, _≤_}
 use mathlib.Core.Path.{_≡_}
 use mathlib.Core.Logic.{_≢_, _⊎_}
 use mathlib.Core.List.{List, [], _∷_}
-use mathlib.Core.Bool.{true, false, cond}
+use mathlib.Core.Bool.{true, cond}
 use lib.ListN.{length, getD}
 use Rattle.octets.specs.Octets.{partOf}
-use Rattle.octets.specs.Addresses.{isGroup, addressOf, unused}
+use Rattle.octets.specs.Addresses.{addressOf, unused}
 use Rattle.octets.specs.declared.Setting.{Setting}
 use Rattle.refusal.specs.Numbers.{Report, number, number-at}
 use Rattle.name_table.specs.declared.Found.the-variants.{At, Nothing}
@@ -16,11 +16,12 @@ use Rattle.message.specs.declared.Question.{Question}
 use Rattle.message.specs.declared.QuestionRead.the-variants.{Good, Bad}
 use Rattle.message.specs.Header.{headerOf}
 use Rattle.message.specs.Question.{questionAt}
-use Rattle.host.specs.State.{settingOf, isOwn, stateOf}
+use Rattle.host.specs.State.{settingOf, stateOf}
 use Rattle.host.specs.Receive.{Arrival}
-use Rattle.host.specs.ExactlyWhen.{WaitsFor}
-use Rattle.host.specs.declared.NameState.the-variants.{Off, Unique, Stopped}
+use Rattle.host.specs.declared.NameState.{NameState}
+use Rattle.host.specs.declared.NameState.the-variants.{Off, Verifying, Unique, Defending, Stopped, Shared}
 use Rattle.host.specs.declared.Host.{Host}
+use Rattle.witness.specs.States.{IsGroup, Ours, Matches}
 
 -- ---- Numbers and conditions.
 
@@ -42,7 +43,7 @@ First t (case-at n c ∷ rest) = ((at : ℕ) × (t ≡ number-at n at) × c at) 
 abbrev pub IsBadSetting : Setting → Type 0
 IsBadSetting s =
     ((s .family ≡ 4) ⊎ (s .family ≡ 6))
-    × ((isGroup (addressOf s) ≡ true) ⊎ ((s .interval ≢ 100) × (s .interval ≢ 1000)))
+    × (IsGroup (addressOf s) ⊎ ((s .interval ≢ 100) × (s .interval ≢ 1000)))
 
 abbrev pub setUpCases : List ℕ → List Setting → ℕ → List Case
 setUpCases table settings time =
@@ -100,18 +101,23 @@ IsBadAddress h a wrong =
 abbrev pub IsBadNotification : Host → Arrival → Type 0
 IsBadNotification h a =
     (headerOf (a .datagram) .conflict ≡ true)
-    × (OfQuestion a (λ names q. (k : ℕ) × IsFor a names q k × (stateOf h (a .interface) k ≢ Unique)) ⊎ (isOwn h (a .from .address) ≡ true))
+    × (OfQuestion a (λ names q. (k : ℕ) × IsFor a names q k × (stateOf h (a .interface) k ≢ Unique)) ⊎ Ours h (a .from .address))
 
--- the k-th name waits here for this ID and question
-abbrev pub IsAwaited : Host → Arrival → Question → ℕ → Type 0
-IsAwaited h a q k = WaitsFor (stateOf h (a .interface) k) (headerOf (a .datagram) .id) (q .qtype) (q .class)
+-- a name in this state waits for this ID and question: those of its query, which while Verifying is of type 255, class 1
+abbrev pub IsAwaited : Arrival → Question → NameState → Type 0
+IsAwaited a q Off = ⊥
+IsAwaited a q (Verifying sends own timer) = Matches a q own 255 1
+IsAwaited a q Unique = ⊥
+IsAwaited a q (Defending own qtype class timer) = Matches a q own qtype class
+IsAwaited a q Stopped = ⊥
+IsAwaited a q Shared = ⊥
 
 -- A query: 1 to 7, 9 to 14.
 abbrev pub queryCases : Host → Arrival → List Case
 queryCases h a =
     earlyCases h (a .table) (a .interface) (a .time) (a .out)
     (case 5 (IsBadLength a)
-    ∷ case 6 (IsBadAddress h a (isGroup (a .to) ≡ false))
+    ∷ case 6 (IsBadAddress h a (IsGroup (a .to) → ⊥))
     ∷ case 7 (headerOf (a .datagram) .opcode ≢ 0)
     ∷ case 9 ((headerOf (a .datagram) .questions ≢ 1) ⊎ (headerOf (a .datagram) .answers ≢ 0) ⊎ (headerOf (a .datagram) .authorities ≢ 0))
     ∷ case 10 (questionAt (a .datagram) 12 ≡ Bad)
@@ -126,13 +132,13 @@ abbrev pub responseCases : Host → Arrival → List Case
 responseCases h a =
     earlyCases h (a .table) (a .interface) (a .time) (a .out)
     (case 5 (IsBadLength a)
-    ∷ case 6 (IsBadAddress h a (isGroup (a .to) ≡ true))
+    ∷ case 6 (IsBadAddress h a (IsGroup (a .to)))
     ∷ case 7 (headerOf (a .datagram) .opcode ≢ 0)
     ∷ case 8 (headerOf (a .datagram) .rcode ≢ 0)
     ∷ case 9 (headerOf (a .datagram) .questions ≢ 1)
     ∷ case 10 (questionAt (a .datagram) 12 ≡ Bad)
-    ∷ case 15 (OfQuestion a (λ names q. IsForNone a names q ⊎ ((k : ℕ) × IsFor a names q k × (IsAwaited h a q k → ⊥))))
-    ∷ case 16 (isOwn h (a .from .address) ≡ true)
+    ∷ case 15 (OfQuestion a (λ names q. IsForNone a names q ⊎ ((k : ℕ) × IsFor a names q k × (IsAwaited a q (stateOf h (a .interface) k) → ⊥))))
+    ∷ case 16 (Ours h (a .from .address))
     ∷ [])
 
 -- Receive, by the QR bit.

@@ -11,17 +11,15 @@ use Rattle.octets.specs.declared.Endpoint.{Endpoint}
 use Rattle.octets.specs.declared.Address.{Address}
 use Rattle.octets.specs.declared.Setting.{Setting}
 use Rattle.refusal.specs.Numbers.{number}
-use Rattle.name_table.specs.Check.{Held}
+use Rattle.name_table.specs.Check.{Held, good, checkTable}
 use Rattle.message.specs.declared.Question.{Question}
 use Rattle.message.specs.declared.HeaderRead.the-variants.{Good}
 use Rattle.message.specs.Header.{headerOf, headerAt}
 use Rattle.host.specs.State.{interfaceOf, settingOf, stateOf}
 use Rattle.host.specs.Outcomes.{Result, refused, quiet, kept, unique, shared, stopped, query, reply, Done}
-use Rattle.host.specs.Laws.{OnlyChanges}
+use Rattle.host.specs.Laws.{Accepted, OnlyChanges}
 use Rattle.host.specs.Receive.{Arrival}
 use Rattle.host.specs.Tick.{tick}
-use Rattle.host.specs.ExactlyWhen.{CalledWell}
-use Rattle.host.specs.Served.{DueBy}
 use Rattle.host.specs.declared.Timer.{Timer}
 use Rattle.host.specs.declared.NameState.{NameState}
 use Rattle.host.specs.declared.NameState.the-variants.{Off, Verifying, Unique, Defending, Stopped, Shared}
@@ -42,6 +40,12 @@ pub data Group (h : Host) (i : ℕ) : Endpoint → Type 0 where
       → Group h i (record { address = record { family = 4; octets = 224 ∷ 0 ∷ 0 ∷ 252 ∷ 0 ∷ 0 ∷ 0 ∷ 0 ∷ 0 ∷ 0 ∷ 0 ∷ 0 ∷ 0 ∷ 0 ∷ 0 ∷ 0 ∷ [] }; port = 5355 })
   group-6 : settingOf h i .family ≡ 6
       → Group h i (record { address = record { family = 6; octets = 0xFF ∷ 0x02 ∷ 0 ∷ 0 ∷ 0 ∷ 0 ∷ 0 ∷ 0 ∷ 0 ∷ 0 ∷ 0 ∷ 0 ∷ 0 ∷ 0x01 ∷ 0 ∷ 0x03 ∷ [] }; port = 5355 })
+
+-- an address is a group's, in the 4 or 16 octets of the family
+pub data IsGroup (x : Address) : Type 0 where
+  is-group-4 : x .family ≡ 4 → take 4 (x .octets) ≡ 224 ∷ 0 ∷ 0 ∷ 252 ∷ [] → IsGroup x
+  is-group-6 : x .family ≡ 6
+      → take 16 (x .octets) ≡ 0xFF ∷ 0x02 ∷ 0 ∷ 0 ∷ 0 ∷ 0 ∷ 0 ∷ 0 ∷ 0 ∷ 0 ∷ 0 ∷ 0 ∷ 0 ∷ 0x01 ∷ 0 ∷ 0x03 ∷ [] → IsGroup x
 
 -- an address is that of a used interface, in the 4 or 16 octets of the family
 pub data IsOf (s : Setting) (x : Address) : Type 0 where
@@ -112,9 +116,10 @@ pub record Replies (h : Host) (a : Arrival) (c t : Bool) (d : Done) : Type 0 whe
 pub record Moves (h : Host) (i k : ℕ) (s : NameState) (time : ℕ) (d : Done) : Type 0 where
   pub state : stateOf (d .host) i k ≡ s
   pub others : OnlyChanges h (d .host) i k
-  -- its interface's setting, and its place
+  -- its interface's setting, its place, and how many names there are
   pub setting : settingOf (d .host) i ≡ settingOf h i
   pub place : Place (d .host) i k
+  pub many : length (interfaceOf (d .host) i .names) ≡ length (interfaceOf h i .names)
   pub clock : d .host .clock ≡ time
 
 -- so, with nothing sent
@@ -232,12 +237,21 @@ Response h a q k Shared d = Refuses h (a .out) 15 d
 
 -- ---- ticks, with m names in the table and an interval of n
 
+-- the timer of a name has run out
+abbrev pub IsDue : NameState → ℕ → Type 0
+IsDue Off time = ⊥
+IsDue (Verifying sends id timer) time = timer .due ≤ time
+IsDue Unique time = ⊥
+IsDue (Defending id qtype class timer) time = timer .due ≤ time
+IsDue Stopped time = ⊥
+IsDue Shared time = ⊥
+
 -- no name before the k-th is due; none but the k-th
 abbrev pub First : Host → ℕ → ℕ → ℕ → Type 0
-First h i k time = (j : ℕ) → j < k → DueBy (stateOf h i j) time → ⊥
+First h i k time = (j : ℕ) → j < k → IsDue (stateOf h i j) time → ⊥
 
 abbrev pub Alone : Host → ℕ → ℕ → ℕ → ℕ → Type 0
-Alone h i k m time = (j : ℕ) → j < m → j ≢ k → DueBy (stateOf h i j) time → ⊥
+Alone h i k m time = (j : ℕ) → j < m → j ≢ k → IsDue (stateOf h i j) time → ⊥
 
 pub record VerifyingTicks (h : Host) (i k m n time : ℕ) (name out : List ℕ) (sends id due : ℕ) (d : Done) : Type 0 where
   pub before : time < due → Alone h i k m time → Leaves h time out quiet d
@@ -268,13 +282,13 @@ pub data Serves (k : ℕ) : Result → Type 0 where
   asks-again : (len : ℕ) → Serves k (query k len)
   settles : Serves k (unique k)
 
--- the call d at the time `sent` has sent a query for the k-th name: a tick is quiet up to the millisecond before sent + n, if no other name
--- is due, and serves this one from then on, if none before it is
+-- the call d at the time `sent` has sent a query for the k-th name: a tick that is accepted is quiet up to the millisecond before
+-- sent + n, if no other name is due, and serves this one from then on, if none before it is
 pub record DueExactly (table : List ℕ) (names : List Held) (i k n sent : ℕ) (d : Done) : Type 0 where
-  pub quiet-before : (time id : ℕ) (out : List ℕ) → CalledWell (d .host) table i time out names → Alone (d .host) i k (length names) time
-      → time + 1 ≤ sent + n → Leaves (d .host) time out quiet (tick (d .host) table i time id out)
-  pub serves-then : (time id : ℕ) (out : List ℕ) → CalledWell (d .host) table i time out names → First (d .host) i k time
-      → sent + n ≤ time → Serves k (tick (d .host) table i time id out .result)
+  pub quiet-before : (time id : ℕ) (out : List ℕ) → checkTable table ≡ good names → Accepted (tick (d .host) table i time id out)
+      → Alone (d .host) i k (length names) time → time + 1 ≤ sent + n → Leaves (d .host) time out quiet (tick (d .host) table i time id out)
+  pub serves-then : (time id : ℕ) (out : List ℕ) → checkTable table ≡ good names → Accepted (tick (d .host) table i time id out)
+      → First (d .host) i k time → sent + n ≤ time → Serves k (tick (d .host) table i time id out .result)
 
 -- ---- set-up
 
