@@ -74,15 +74,22 @@ many h table i time out t at p n e = ap (λ (c : Checked). length (namesIn c)) (
 
 -- checks that follow a refusal change nothing
 infixr 5 _then_
-abbrev _then_ : Checks → Checks → Checks
+abbrev pub _then_ : Checks → Checks → Checks
 fail b t c then d = fail b t (c then d)
 pass then d = d
 
-stays : (c d : Checks) (t : Report) → verdict c ≡ refused t → verdict (c then d) ≡ refused t
+pub stays : (c d : Checks) (t : Report) → verdict c ≡ refused t → verdict (c then d) ≡ refused t
 unfolding verdict
 stays (fail true u c) d t e = e
 stays (fail false u c) d t e = stays c d t e
 stays pass d t e = let z : _≡_ {A = ℕ} 0 1 = cc in absurd (omega arith)
+
+-- and checks that pass leave it to those that follow
+pub goes-on : (c d : Checks) {v : Verdict} → verdict c ≡ passed → Gives d v → Gives (c then d) v
+unfolding verdict
+goes-on (fail true u c) d e g = let z : _≡_ {A = ℕ} 0 1 = cc in absurd (omega arith)
+goes-on (fail false u c) d e g = next refl (goes-on c d e g)
+goes-on pass d e g = g
 
 module _ (h : Host) (table : List ℕ) (i time : ℕ) (out : List ℕ) (at : ℕ) (s : at ≡ slotOf i) where
   same-place : i < interfaces → at ≡ i

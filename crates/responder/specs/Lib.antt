@@ -1,2 +1,4 @@
+pub mod Contest
+pub mod Datagram
 pub mod Opening
 pub mod Turn

@@ -1,20 +1,29 @@
-// The calls of a host: set-up, start and tick. They take the host by value and give the next one. What each gives is defined in the
+// The calls of a host: set-up, start, receive and tick. They take the host by value and give the next one. What each gives is defined in the
 // crate host.
 ghost use mathlib.Core.Path.{_≡_};
 ghost use mathlib.Core.List.{[]};
 ghost use Rattle.host.specs.Outcomes.{nowhere, doneBy};
 ghost use Rattle.host.specs.SetUp.{zeroHost, setUp};
 ghost use Rattle.host.specs.Start.{start as startOf};
+ghost use Rattle.host.specs.Receive.{receive as receiveOf};
 ghost use Rattle.host.specs.Tick.{tick as tickOf};
 
+mod contest;
+mod datagram;
 mod opening;
 mod query;
+mod reply;
 mod settings;
 mod turn;
 
+use contest::Judged;
 use host::Host;
 use host::Outcome;
 use host::Step;
+use message::Header;
+use name_table::Found;
+use octets::Address;
+use octets::Endpoint;
 use octets::Setting;
 use refusal::Refusal;
 
@@ -96,6 +105,74 @@ pub fn start(
     Step { host, outcome, to }
 }
 
+// Refuses a call: the host stays as it is.
+fn refuse(host: Host, refusal: Refusal) -> Step
+    ensures { λ r. ⌜ r ≡ record { host = host; outcome = Outcome.Refused refusal; to = nowhere } ⌝ }
+{
+    let outcome = Outcome::Refused(refusal);
+    let to = query::nowhere();
+    Step { host, outcome, to }
+}
+
+// Takes a datagram that came from an address and port to an address: it is answered, or settles who has the name.
+pub fn receive(
+    mut host: Host,
+    table: &[u8],
+    interface: usize,
+    from: Endpoint,
+    to: Address,
+    datagram: &[u8],
+    time: u64,
+    id: u16,
+    out: &mut [u8],
+) -> Step
+    ensures { λ r. ⌜ doneBy r (now (out .exit)) ≡ receiveOf host (record { table = now (table .entry); interface = interface; from = from; to = to; datagram = now (datagram .entry); time = time; id = id; out = now (out .entry) }) ⌝ }
+{
+    let at = opening::slot(interface);
+    let here = host.interfaces[at];
+    let s = here.setting;
+    let o = opening::open(out.len(), table, interface, s.family, host.clock, time);
+    if o.refused {
+        let why = o.refusal;
+        return refuse(host, why);
+    }
+    let source = from.address;
+    let d = datagram::read(s.family, source.family, to, datagram);
+    if d.refused {
+        let why = d.refusal;
+        return refuse(host, why);
+    }
+    let t = o.table;
+    let q = d.question;
+    let h = d.header;
+    let name = octets::part(datagram, Header::OCTETS, Header::OCTETS + q.name);
+    let found = t.find(table, name);
+    let Found::At(k) = found else {
+        return refuse(host, contest::unknown(h.response));
+    };
+    let mut i = host.interfaces[at];
+    let n = i.names[k];
+    let judged = contest::judge(n, h, q, host.interfaces, source);
+    if let Judged::Refused(why) = judged {
+        return refuse(host, why);
+    }
+    host.clock = time;
+    let asked = octets::part(datagram, Header::OCTETS, q.end);
+    if let Judged::Answer = judged {
+        let len = reply::write(out, h.id, n, asked, q.qtype, table, t.ends[k]);
+        let outcome = Outcome::Reply { len };
+        let to = from;
+        return Step { host, outcome, to };
+    }
+    let ended = contest::settle(n, h, source, s);
+    i.names[k] = contest::next(ended, n, id, q, s, time);
+    host.interfaces[at] = i;
+    let a = contest::tell(ended, k, s.family, id, asked, out);
+    let outcome = a.outcome;
+    let to = a.to;
+    Step { host, outcome, to }
+}
+
 // Serves the lowest-numbered name of the table that is due on an interface. The ID is not used: a repeat carries the first one.
 pub fn tick(
     mut host: Host,
@@ -109,29 +186,31 @@ pub fn tick(
 {
     let to = query::nowhere();
     let at = opening::slot(interface);
-    let mut i = host.interfaces[at];
-    let s = i.setting;
+    let here = host.interfaces[at];
+    let s = here.setting;
     let o = opening::open(out.len(), table, interface, s.family, host.clock, time);
     if o.refused {
         let why = o.refusal;
         let outcome = Outcome::Refused(why);
         return Step { host, outcome, to };
     }
-    host.clock = time;
     let t = o.table;
-    let names = i.names;
+    let names = here.names;
     let n = name_table::Table::count(t.names);
     let k = turn::find_due(names, n, time);
     if n <= k {
+        host.clock = time;
         let outcome = Outcome::Quiet;
         return Step { host, outcome, to };
     }
-    let name = names[k];
+    let mut i = host.interfaces[at];
+    let name = i.names[k];
     let state = name.state;
     let a = turn::again(state, s, time);
     let next = a.name;
     i.names[k] = next;
     host.interfaces[at] = i;
+    host.clock = time;
     if a.asks {
         let len = query::write(a.id, query::octets_of(t, table, k), out);
         let outcome = Outcome::Query { name: k, len };

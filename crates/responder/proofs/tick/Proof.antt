@@ -40,11 +40,11 @@ nowhere-requires c κs = search needs
 slot-requires : tie.Need-slot-requires
 slot-requires c κs = search needs
 
-mul-i : tie.Need-mul-i
-mul-i c = search needs
+mul-here : tie.Need-mul-here
+mul-here c = search needs
 
-element-copy-out-i : tie.Need-element-copy-out-i
-element-copy-out-i c = search needs
+element-copy-out-here : tie.Need-element-copy-out-here
+element-copy-out-here c = search needs
 
 open-requires : tie.Need-open-requires
 open-requires c κs = search needs
@@ -69,19 +69,25 @@ find-due-requires c κs = search needs
 returns-2 : tie.Need-returns-2
 returns-2 c = rw (nowhere-is (c .before .before .before .before .before .before)) (none-due _ _ _ _ _ _ _ _ (called (c .before .before .before .before .before)) _ (c .before .before .count .ensures) _ (c .before .find-due .ensures) (c .if2 .taken))
 
+mul-i : tie.Need-mul-i
+mul-i c = search needs
+
+element-copy-out-i : tie.Need-element-copy-out-i
+element-copy-out-i c = search needs
+
 mul-name : tie.Need-mul-name
 mul-name c = search needs
 
-array-copy-out-name : tie.Need-array-copy-out-name
-array-copy-out-name c = search needs
+element-copy-out-name : tie.Need-element-copy-out-name
+element-copy-out-name c = search needs
 
 again-requires : tie.Need-again-requires
-again-requires c κs = called (c .before .before .before .before .before .before) .well .latest
+again-requires c κs = called (c .before .before .before .before .before .before .before) .well .latest
 
 -- what the name comes to
 module _ (c : tie.After-again) where
   abbrev opened : tie.Else1
-  opened = c .before .before .before .before .before .before .before
+  opened = c .before .before .before .before .before .before .before .before
 
   abbrev o : tie.After-open
   o = opened .before
@@ -90,11 +96,11 @@ module _ (c : tie.After-again) where
   g = given o
 
   abbrev k : ℕ
-  k = c .before .before .before .find-due .result
+  k = c .before .before .before .before .find-due .result
 
   served : turned (c .again .result) (unique k) (host o) (table o) (place o) k (g .args .time) (out o)
       ≡ tick (host o) (table o) (g .args .interface) (g .args .time) (g .args .id) (out o)
-  served = one-due _ _ _ _ _ _ _ _ (called opened) _ (c .before .before .before .before .count .ensures) _ (c .before .before .before .find-due .ensures) (c .before .before .if2 .left) _ (c .again .ensures)
+  served = one-due _ _ _ _ _ _ _ _ (called opened) _ (c .before .before .before .before .before .count .ensures) _ (c .before .before .before .before .find-due .ensures) (c .before .before .before .if2 .left) _ (c .again .ensures)
 
 mul-next : tie.Need-mul-next
 mul-next c = search needs
@@ -102,8 +108,8 @@ mul-next c = search needs
 element-set-from-next : tie.Need-element-set-from-next
 element-set-from-next c = search needs
 
-mul-t28 : tie.Need-mul-t28
-mul-t28 c = search needs
+mul-t29 : tie.Need-mul-t29
+mul-t29 c = search needs
 
 element-set-from-host : tie.Need-element-set-from-host
 element-set-from-host c = search needs
@@ -138,19 +144,21 @@ tick-spec =
     (tie.spec
     nowhere-requires
     slot-requires
-    mul-i
-    element-copy-out-i
+    mul-here
+    element-copy-out-here
     open-requires
     returns
     count-requires
     find-due-requires
     returns-2
+    mul-i
+    element-copy-out-i
     mul-name
-    array-copy-out-name
+    element-copy-out-name
     again-requires
     mul-next
     element-set-from-next
-    mul-t28
+    mul-t29
     element-set-from-host
     octets-of-requires
     write-requires

@@ -1,0 +1,12 @@
+-- `responder::datagram::has_failed` meets its contract.
+use Rattle.responder.proofs.datagram.has_failed.Statement.{statement}
+use Rattle.responder.proofs.datagram.has_failed.Tie as tie
+
+returns : tie.Need-returns
+returns c = rw (c .if1 .taken)
+
+returns-2 : tie.Need-returns-2
+returns-2 c = rw (c .if1 .left)
+
+pub has-failed-spec : {M : Type 1} → statement M
+has-failed-spec = tie.close (tie.spec returns returns-2)
