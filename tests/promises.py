@@ -9,11 +9,12 @@ What is read in docs/PROMISES.md, always between backticks:
     `crate/File name other`   declared in File.antt of the crate: under specs/ in the column "definition", under proofs/ in the column
                               "theorems", under either elsewhere; `Record.field` is a field of a record or a constructor of a type;
                               File may have its folder before it, as in `crate/Folder/File name`
-    `crate label other`       in the column "edits": crates/crate/must-fail/label.edit
+    `crate label other`       in the column "edits", or in one of EDITS: crates/crate/must-fail/label.edit
     `crate::name`             a free function or a type in the crate's src/
     `crate::Type::name`       a function or a constant in an impl of the type
 
-The first column, "rule", holds the numbers of docs/RULES.md.
+The first column, "rule", holds the numbers of docs/RULES.md. A table whose first column is "call" pairs each call with its definition: that
+one has to be the whole of the call's `ensures`, and to be named by the statement about many hosts.
 """
 
 import re
@@ -25,6 +26,9 @@ CRATES = ROOT / "crates"
 PROMISES = ROOT / "docs" / "PROMISES.md"
 RULES = ROOT / "docs" / "RULES.md"
 
+CALLS = CRATES / "responder" / "src" / "lib.rt"
+LINK = CRATES / "uniqueness" / "specs" / "Link.antt"
+EDITS = ("edits", "a wrong program", "code and definition alike")
 GROUPS = "MTCONFSBKRUDLHE"  # groups of rules that have rows; P is for the program around the calls
 RULE = re.compile(rf"\b[P{GROUPS}][1-9][0-9]*\b")
 SPAN = re.compile(r"`([^`]+)`")
@@ -101,6 +105,7 @@ class Check:
         self.sources = {}
         self.cited = set()
         self.edits = set()
+        self.pairs = set()
 
     def wrong(self, line, what):
         self.stale.setdefault(what, []).append(line)
@@ -141,15 +146,27 @@ class Check:
         place, code, labels = PLACE.fullmatch(text), CODE.fullmatch(text), LABELS.fullmatch(text)
         crate = next((m.group(1) for m in (place, code, labels) if m), None)
         known = crate is not None and (CRATES / crate).is_dir()
-        if place and known and column != "edits":
+        if place and known and column not in EDITS:
             folders = {"definition": ["specs"], "theorems": ["proofs"]}.get(column, ["specs", "proofs"])
             self.place(line, crate, place.group(2), place.group(3).split(), folders)
-        elif code and known and column not in ("definition", "theorems", "edits"):
+        elif code and known and column not in ("definition", "theorems", *EDITS):
             self.code(line, crate, code.group(2), code.group(3))
-        elif labels and known and column == "edits":
+        elif labels and known and column in EDITS:
             self.labels(line, crate, labels.group(2).split())
-        elif column in ("definition", "function", "theorems", "edits") or place or code:
+        elif column in ("definition", "function", "theorems", *EDITS) or place or code:
             self.wrong(line, f"`{text}` is no citation for this place")
+
+    def pair(self, line, call, definition):
+        """A call of the host, and the definition that its contract and the statement about many hosts share."""
+        file, name = definition.removeprefix("host/").split()
+        source = CALLS.read_text(encoding="utf-8")
+        contract = re.search(rf"pub fn {call.removeprefix('responder::')}\(.*?\n    ensures {{ λ r\. ⌜ doneBy r .*? ≡ (\w+) [^\n]*\n{{", source, re.S)
+        used = re.search(rf"ghost use Rattle\.host\.specs\.{file}\.{{[^}}]*\b{name}(?: as (\w+))?[,}}]", source)
+        if not contract or not used or contract.group(1) != (used.group(1) or name):
+            self.wrong(line, f"the ensures of {call} is no equation with {definition}")
+        if not re.search(rf"use Rattle\.host\.specs\.{file}\.{{[^}}]*\b{name}\b", LINK.read_text(encoding="utf-8")):
+            self.wrong(line, f"{LINK.name} does not name {definition}")
+        self.pairs.add(call)
 
 
 def cells(line):
@@ -175,6 +192,8 @@ def main():
             row = cells(line)
             if len(row) != len(header):
                 check.wrong(at, f"{len(row)} cells under {len(header)} heads")
+            if header[0] == "call":
+                check.pair(at, *(SPAN.search(cell).group(1) for cell in row[:2]))
             for column, cell in zip(header, row):
                 if column == "rule":
                     rows.update(RULE.findall(cell))
@@ -194,8 +213,9 @@ def main():
     for what, lines in check.stale.items():
         at = ", ".join(str(line) for line in dict.fromkeys(lines) if line)
         print(f"stale: {what}" + (f" (docs/PROMISES.md, line {at})" if at else ""))
-    print(f"promises: {len(due & rows)} of {len(due)} rules, {len(check.cited)} names, {len(check.edits)} edits, {len(check.stale)} stale")
-    return 1 if check.stale or not due or not check.cited else 0
+    print(f"promises: {len(due & rows)} of {len(due)} rules, {len(check.cited)} names, {len(check.edits)} edits, "
+          f"{len(check.pairs)} calls, {len(check.stale)} stale")
+    return 1 if check.stale or not due or not check.cited or not check.pairs else 0
 
 
 if __name__ == "__main__":
