@@ -8,7 +8,7 @@ use lib.Dec.{ltb}
 use lib.ListN.{length, take, drop, length-append, take-append-drop}
 use lib.Seq.{drop-at, take-at, drop-drop}
 use borrow.Author.Tests.{lt-ltb, le-ltb, ltb-true, ltb-false}
-use Rattle.octets.specs.Octets.{Octets, partOf}
+use Rattle.octets.specs.Octets.{Octets, partOf, runsPast}
 use Rattle.octets.specs.Words.{bigAt, bigOctets}
 use Rattle.octets.proofs.Tests.{split}
 use Rattle.octets.proofs.Octets.{octets-append, part-in}
@@ -24,7 +24,7 @@ use Rattle.names.proofs.Names.{reads-a-name, reads-back}
 use Rattle.message.specs.declared.Question.{Question}
 use Rattle.message.specs.declared.QuestionRead.{QuestionRead}
 use Rattle.message.specs.declared.QuestionRead.the-variants.{Good, Bad}
-use Rattle.message.specs.Question.{questionOf, questionAt, IsQuestion, questionOctets}
+use Rattle.message.specs.Question.{questionOf, afterName, questionAt, questionOr, IsQuestion, questionOctets}
 
 -- ---- the reader, by what it finds
 
@@ -40,6 +40,16 @@ module _ (s : List ℕ) (at : ℕ) where
   pub question-good : (n : Name) → nameAt s at ≡ GoodName n → at + n .len + 4 ≤ length s → questionAt s at ≡ Good (questionOf s at (n .len))
   unfolding questionAt
   question-good n e h = rw (e, le-ltb _ _ h)
+
+-- a question's name has no more octets than the slice
+pub name-within : (s : List ℕ) (at : ℕ) → questionOr (questionAt s at) .name ≤ length s
+unfolding questionAt
+name-within s at = go (nameAt s at)
+  where
+    go : (r : NameRead) → questionOr (afterName s at r) .name ≤ length s
+    go BadName = omega arith
+    go (GoodName n) =
+        split (runsPast (length s) (at + n .len) 4) (λ p. rw p (omega arith)) (λ p. rw p (omega (arith, ltb-false (length s) (at + n .len + 4) p)))
 
 -- ---- in plain words
 

@@ -17,6 +17,15 @@ pub cond-same : {A : Type 0} (b : Bool) (x : A) → cond b x x ≡ x
 cond-same true x = refl
 cond-same false x = refl
 
+-- a test by its two ways, and its opposite
+pub itself : (b : Bool) → b ≡ cond b true false
+itself true = refl
+itself false = refl
+
+pub opposite : (b : Bool) → not b ≡ cond b false true
+opposite true = refl
+opposite false = refl
+
 -- two tests, one after the other
 pub both : (p q : Bool) → ((p and q) ≡ true) ↔ ((p ≡ true) × (q ≡ true))
 both true q = (λ e. (refl, e), λ t. t .1)

@@ -1,7 +1,10 @@
 -- Laws of checks made in order.
+use Prim.Native.Nat.{ℕ}
 use mathlib.Core.Path.{_≡_, refl}
 use mathlib.Core.Bool.{true, false}
-use Rattle.refusal.specs.Checks.{Checks, fail, pass, Verdict, passed, verdict, Gives, next, stop, done, Clear}
+use native.Mathlib.Omega.{arith}
+use Rattle.refusal.specs.Numbers.{Report}
+use Rattle.refusal.specs.Checks.{Checks, fail, pass, Verdict, refused, passed, verdict, Gives, next, stop, done, Clear}
 
 -- the verdict is what the checks give, and only that
 pub gives : {c : Checks} {v : Verdict} → Gives c v → v ≡ verdict c
@@ -27,3 +30,22 @@ pub passes : (c : Checks) → Clear c → verdict c ≡ passed
 unfolding verdict
 passes (fail b t r) h = rw (h .0) (passes r (h .1))
 passes pass h = refl
+
+-- Checks, and then others. Checks that follow a refusal change nothing.
+infixr 5 _then_
+abbrev pub _then_ : Checks → Checks → Checks
+fail b t c then d = fail b t (c then d)
+pass then d = d
+
+pub stays : (c d : Checks) (t : Report) → verdict c ≡ refused t → verdict (c then d) ≡ refused t
+unfolding verdict
+stays (fail true u c) d t e = e
+stays (fail false u c) d t e = stays c d t e
+stays pass d t e = let z : _≡_ {A = ℕ} 0 1 = cc in absurd (omega arith)
+
+-- and checks that pass leave it to those that follow
+pub goes-on : (c d : Checks) {v : Verdict} → verdict c ≡ passed → Gives d v → Gives (c then d) v
+unfolding verdict
+goes-on (fail true u c) d e g = let z : _≡_ {A = ℕ} 0 1 = cc in absurd (omega arith)
+goes-on (fail false u c) d e g = next refl (goes-on c d e g)
+goes-on pass d e g = g

@@ -3,7 +3,7 @@ use Prim.Native.Nat.{ℕ, _<_, _≤_}
 use mathlib.Core.Path.{_≡_, refl, sym, ap, _∙_, subst}
 use mathlib.Core.Logic.{inl, inr}
 use mathlib.Core.List.{List}
-use mathlib.Core.Bool.{Bool, true, false, cond, not}
+use mathlib.Core.Bool.{true, false}
 use native.Mathlib.Omega.{arith}
 use lib.ListN.{length}
 use lib.Dec.{ltb}
@@ -27,15 +27,6 @@ use Rattle.host.specs.Bounds.{shortest, longest}
 use Rattle.host.specs.Receive.{badLength, badAddress, messageChecks, datagramChecks}
 use Rattle.responder.specs.declared.datagram.Datagram.{Datagram}
 use Rattle.responder.specs.Datagram.{wrongClass, reads, readIf, datagramRead, readBy}
-
--- a test by its two ways
-pub itself : (b : Bool) → b ≡ cond b true false
-itself true = refl
-itself false = refl
-
-pub opposite : (b : Bool) → not b ≡ cond b false true
-opposite true = refl
-opposite false = refl
 
 module _ (family source : ℕ) (to : Address) (s : List ℕ) where
   abbrev checks : Checks

@@ -11,7 +11,7 @@ use Rattle.octets.specs.Bounds.{interfaces}
 use Rattle.octets.proofs.Tests.{split}
 use Rattle.refusal.specs.Numbers.{Report, reportOf}
 use Rattle.refusal.specs.Checks.{Checks, fail, pass, Verdict, refused, passed, verdict, Gives, next, stop}
-use Rattle.refusal.proofs.Checks.{clear, gives}
+use Rattle.refusal.proofs.Checks.{clear, gives, _then_, stays}
 use Rattle.refusal.specs.declared.Refusal.{Refusal}
 use Rattle.refusal.specs.declared.Refusal.the-variants.{Table as BadTable}
 use Rattle.name_table.specs.Bounds.{mostNames}
@@ -71,25 +71,6 @@ pub record Called (h : Host) (table : List ℕ) (i time : ℕ) (out : List ℕ) 
 pub many : (h : Host) (table : List ℕ) (i time : ℕ) (out : List ℕ) (t : Table) (at : ℕ) → Called h table i time out t at
     → (n : ℕ) → n ≡ min (t .names) mostNames → length (namesIn (checkTable table)) ≡ n
 many h table i time out t at p n e = ap (λ (c : Checked). length (namesIn c)) (p .well .good-table) ∙ counted table t ∙ sym e
-
--- checks that follow a refusal change nothing
-infixr 5 _then_
-abbrev pub _then_ : Checks → Checks → Checks
-fail b t c then d = fail b t (c then d)
-pass then d = d
-
-pub stays : (c d : Checks) (t : Report) → verdict c ≡ refused t → verdict (c then d) ≡ refused t
-unfolding verdict
-stays (fail true u c) d t e = e
-stays (fail false u c) d t e = stays c d t e
-stays pass d t e = let z : _≡_ {A = ℕ} 0 1 = cc in absurd (omega arith)
-
--- and checks that pass leave it to those that follow
-pub goes-on : (c d : Checks) {v : Verdict} → verdict c ≡ passed → Gives d v → Gives (c then d) v
-unfolding verdict
-goes-on (fail true u c) d e g = let z : _≡_ {A = ℕ} 0 1 = cc in absurd (omega arith)
-goes-on (fail false u c) d e g = next refl (goes-on c d e g)
-goes-on pass d e g = g
 
 module _ (h : Host) (table : List ℕ) (i time : ℕ) (out : List ℕ) (at : ℕ) (s : at ≡ slotOf i) where
   same-place : i < interfaces → at ≡ i

@@ -6,16 +6,12 @@ use mathlib.Core.Bool.{Bool, true, false, cond}
 use native.Mathlib.Omega.{arith}
 use lib.ListN.{length, getD}
 use lib.Dec.{ltb}
-use borrow.Author.Tests.{ltb-false}
-use Rattle.octets.specs.Octets.{partOf, runsPast}
-use Rattle.octets.proofs.Tests.{split, not-below, neither}
+use Rattle.octets.specs.Octets.{partOf}
+use Rattle.octets.proofs.Tests.{not-below, neither}
 use Rattle.refusal.specs.Numbers.{Report, reportOf}
 use Rattle.refusal.specs.Checks.{Checks, pass, Verdict, refused, passed, verdict, Gives}
-use Rattle.refusal.proofs.Checks.{given, clear}
+use Rattle.refusal.proofs.Checks.{given, clear, _then_, stays, goes-on}
 use Rattle.refusal.specs.declared.Refusal.{Refusal}
-use Rattle.names.specs.NameWalk.{nameAt}
-use Rattle.names.specs.declared.NameRead.{NameRead}
-use Rattle.names.specs.declared.NameRead.the-variants.{Good as GoodName, Bad as BadName}
 use Rattle.name_table.specs.Bounds.{mostNames}
 use Rattle.name_table.specs.Check.{Held, Checked, noName, namesIn, nameIn, checkTable, findName, isFound, numberOr}
 use Rattle.name_table.specs.Shown.{namesOf}
@@ -26,7 +22,7 @@ use Rattle.name_table.proofs.Held.{found-below}
 use Rattle.message.specs.Bounds.{headerOctets}
 use Rattle.message.specs.declared.Header.{Header}
 use Rattle.message.specs.declared.Question.{Question}
-use Rattle.message.specs.Question.{questionAt, questionOr, afterName}
+use Rattle.message.proofs.Questions.{name-within}
 use Rattle.message.specs.Reply.{Written, answersIn, replyWritten}
 use Rattle.host.specs.Bounds.{replyLimit, shortest, longest}
 use Rattle.host.specs.State.{settingOf, stateOf, verifying, shared, is, withState}
@@ -45,19 +41,9 @@ use Rattle.responder.specs.declared.contest.Ending.{Ending}
 use Rattle.responder.specs.declared.contest.Ending.the-variants.{Defended, Lost, Kept}
 use Rattle.responder.specs.Datagram.{Reading, refuses, reads, readIf, datagramRead, readBy}
 use Rattle.responder.specs.Contest.{whyUnknown, stateJudged, judged, ending, nextName, told}
-use Rattle.responder.proofs.OpeningLaws.{Called, _then_, stays, goes-on}
+use Rattle.responder.proofs.OpeningLaws.{Called}
 use Rattle.responder.proofs.NameLaws.{counted, held-is}
 use Rattle.responder.proofs.ContestLaws.{lastChecks, verdictOf, not-found, judged-so, decisionOf, answers-so, ends-so}
-
--- a question's name has no more octets than the datagram
-name-within : (s : List ℕ) → questionOr (questionAt s headerOctets) .name ≤ length s
-unfolding questionAt
-name-within s = go (nameAt s headerOctets)
-  where
-    go : (r : NameRead) → questionOr (afterName s headerOctets r) .name ≤ length s
-    go BadName = omega arith
-    go (GoodName n) =
-        split (runsPast (length s) (headerOctets + n .len) 4) (λ p. rw p (omega arith)) (λ p. rw p (omega (arith, ltb-false (length s) (headerOctets + n .len + 4) p)))
 
 module _ (h : Host) (a : Arrival) where
   abbrev checksRead : ℕ → Checks → Checks
@@ -102,7 +88,7 @@ module _ (h : Host) (a : Arrival) where
       name-short =
           let l = not-below longest (length (a .datagram)) .0 (neither (ltb (length (a .datagram)) shortest) (ltb longest (length (a .datagram))) .0 (clear (checksRead (a .interface) pass) (has-read .0) .0) .1) in
           let n : d .question .name ≡ question a .name = ap (λ (q : Question). q .name) (has-read .2) in
-          omega (arith, l, n, name-within (a .datagram))
+          omega (arith, l, n, name-within (a .datagram) headerOctets)
 
       by-last : (v : Verdict) → verdict (last h a) ≡ v → receiveIf v h a ≡ receive h a
       by-last v w = by v (goes-on (checksRead (a .interface) pass) (last h a) (has-read .0) (subst (Gives (last h a)) w (given (last h a))))

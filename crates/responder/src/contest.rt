@@ -13,7 +13,6 @@ use host::Interface;
 use host::Name;
 use host::NameState;
 use host::Outcome;
-use host::Timer;
 use message::Header;
 use message::Question;
 use message::ResourceRecord;
@@ -236,9 +235,7 @@ pub(crate) fn next(
 {
     match ended {
         Ending::Defended => {
-            let timer = Timer {
-                due: time + Timer::interval(setting),
-            };
+            let timer = crate::turn::timer(setting, time);
             Name {
                 state: NameState::Defending {
                     id: id,

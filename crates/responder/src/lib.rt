@@ -3,7 +3,7 @@
 ghost use mathlib.Core.Path.{_≡_};
 ghost use mathlib.Core.List.{[]};
 ghost use Rattle.host.specs.Outcomes.{nowhere, doneBy};
-ghost use Rattle.host.specs.SetUp.{zeroHost, setUp};
+ghost use Rattle.host.specs.SetUp.{setUp};
 ghost use Rattle.host.specs.Start.{start as startOf};
 ghost use Rattle.host.specs.Receive.{receive as receiveOf};
 ghost use Rattle.host.specs.Tick.{tick as tickOf};
@@ -27,10 +27,10 @@ use octets::Endpoint;
 use octets::Setting;
 use refusal::Refusal;
 
-fn refused(refusal: Refusal) -> Step
-    ensures { λ r. ⌜ r ≡ record { host = zeroHost; outcome = Outcome.Refused refusal; to = nowhere } ⌝ }
+// Refuses a call: the host stays as it is.
+fn refuse(host: Host, refusal: Refusal) -> Step
+    ensures { λ r. ⌜ r ≡ record { host = host; outcome = Outcome.Refused refusal; to = nowhere } ⌝ }
 {
-    let host = Host::zero();
     let outcome = Outcome::Refused(refusal);
     let to = query::nowhere();
     Step { host, outcome, to }
@@ -43,13 +43,13 @@ pub fn set_up(table: &[u8], settings: [Setting; Setting::COUNT], time: u64, id: 
     let read = name_table::Table::read(table);
     if !read.good {
         let at = read.at;
-        return refused(Refusal::Table { at: at });
+        return refuse(Host::zero(), Refusal::Table { at: at });
     }
     if Host::LATEST < time {
-        return refused(Refusal::Clock);
+        return refuse(Host::zero(), Refusal::Clock);
     }
     if settings::any_bad(settings) {
-        return refused(Refusal::Settings);
+        return refuse(Host::zero(), Refusal::Settings);
     }
     let host = Host::fresh(settings, time);
     let to = query::nowhere();
@@ -69,26 +69,22 @@ pub fn start(
 ) -> Step
     ensures { λ r. ⌜ doneBy r (now (out .exit)) ≡ startOf host (now (table .entry)) interface name time id (now (out .entry)) ⌝ }
 {
-    let to = query::nowhere();
     let at = opening::slot(interface);
     let mut i = host.interfaces[at];
     let s = i.setting;
     let o = opening::open(out.len(), table, interface, s.family, host.clock, time);
     if o.refused {
         let why = o.refusal;
-        let outcome = Outcome::Refused(why);
-        return Step { host, outcome, to };
+        return refuse(host, why);
     }
     let t = o.table;
     if name_table::Table::count(t.names) <= name {
-        let outcome = Outcome::Refused(Refusal::NotOurs);
-        return Step { host, outcome, to };
+        return refuse(host, Refusal::NotOurs);
     }
     let n = i.names[name];
     let state = n.state;
     if !turn::is_idle(state) {
-        let outcome = Outcome::Refused(Refusal::Busy);
-        return Step { host, outcome, to };
+        return refuse(host, Refusal::Busy);
     }
     let a = turn::first(name_table::kind_of(t.kinds[name]), id, s, time);
     let next = a.name;
@@ -102,14 +98,6 @@ pub fn start(
         return Step { host, outcome, to };
     }
     let outcome = Outcome::Shared { name };
-    Step { host, outcome, to }
-}
-
-// Refuses a call: the host stays as it is.
-fn refuse(host: Host, refusal: Refusal) -> Step
-    ensures { λ r. ⌜ r ≡ record { host = host; outcome = Outcome.Refused refusal; to = nowhere } ⌝ }
-{
-    let outcome = Outcome::Refused(refusal);
     let to = query::nowhere();
     Step { host, outcome, to }
 }
@@ -184,15 +172,13 @@ pub fn tick(
 ) -> Step
     ensures { λ r. ⌜ doneBy r (now (out .exit)) ≡ tickOf host (now (table .entry)) interface time id (now (out .entry)) ⌝ }
 {
-    let to = query::nowhere();
     let at = opening::slot(interface);
     let here = host.interfaces[at];
     let s = here.setting;
     let o = opening::open(out.len(), table, interface, s.family, host.clock, time);
     if o.refused {
         let why = o.refusal;
-        let outcome = Outcome::Refused(why);
-        return Step { host, outcome, to };
+        return refuse(host, why);
     }
     let t = o.table;
     let names = here.names;
@@ -201,6 +187,7 @@ pub fn tick(
     if n <= k {
         host.clock = time;
         let outcome = Outcome::Quiet;
+        let to = query::nowhere();
         return Step { host, outcome, to };
     }
     let mut i = host.interfaces[at];
@@ -218,5 +205,6 @@ pub fn tick(
         return Step { host, outcome, to };
     }
     let outcome = Outcome::Unique { name: k };
+    let to = query::nowhere();
     Step { host, outcome, to }
 }

@@ -6,6 +6,7 @@ ghost use lib.Dec.{ltb};
 ghost use Rattle.name_table.specs.Bounds.{mostNames};
 ghost use Rattle.name_table.specs.Kinds.{isSharedKind};
 ghost use Rattle.host.specs.Bounds.{latest};
+ghost use Rattle.host.specs.State.{timerFrom};
 ghost use Rattle.host.specs.Start.{isIdle};
 ghost use Rattle.host.specs.Tick.{isDue, due, none, dueFrom};
 ghost use Rattle.responder.specs.Turn.{rest, ask, first as firstTurn, again as nextTurn};
@@ -33,14 +34,22 @@ fn rests(state: NameState) -> Turn
     }
 }
 
+// A timer that is started now.
+pub(crate) fn timer(setting: Setting, time: u64) -> Timer
+    requires { ⌜ time ≤ latest ⌝ }
+    ensures { λ r. ⌜ r ≡ timerFrom setting time ⌝ }
+{
+    Timer {
+        due: time + Timer::interval(setting),
+    }
+}
+
 // Verifying, with its timer started now.
 fn asks(sends: u8, id: u16, setting: Setting, time: u64) -> Turn
     requires { ⌜ time ≤ latest ⌝ }
     ensures { λ r. ⌜ r ≡ ask sends id setting time ⌝ }
 {
-    let timer = Timer {
-        due: time + Timer::interval(setting),
-    };
+    let timer = timer(setting, time);
     let name = Name {
         state: NameState::Verifying {
             sends: sends,

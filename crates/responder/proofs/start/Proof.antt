@@ -6,7 +6,7 @@ use mathlib.Core.Bool.{not}
 use denote.Ref.{now}
 use Rattle.host.specs.Start.{start}
 use Rattle.host.specs.declared.Host.{Host}
-use Rattle.host.specs.Outcomes.{nowhere, shared}
+use Rattle.host.specs.Outcomes.{shared}
 use Rattle.responder.specs.Turn.{turned}
 use Rattle.responder.proofs.OpeningLaws.{Called, refusing, calling}
 use Rattle.responder.proofs.TurnLaws.{rested, asked}
@@ -18,7 +18,7 @@ use Rattle.responder.proofs.start.Tie as tie
 -- what the call is given, and the place of its interface
 module _ (c : tie.After-open) where
   abbrev given : tie.Start
-  given = c .before .before .before .before .before .before .before
+  given = c .before .before .before .before .before .before
 
   abbrev host : Host
   host = given .args .t1
@@ -32,12 +32,6 @@ module _ (c : tie.After-open) where
   abbrev place : ℕ
   place = c .before .before .before .slot .result
 
-  nowhere-is : c .before .before .before .before .nowhere .result ≡ nowhere
-  nowhere-is = c .before .before .before .before .nowhere .ensures
-
-nowhere-requires : tie.Need-nowhere-requires
-nowhere-requires c κs = search needs
-
 slot-requires : tie.Need-slot-requires
 slot-requires c κs = search needs
 
@@ -50,12 +44,15 @@ element-copy-out-i c = search needs
 open-requires : tie.Need-open-requires
 open-requires c κs = search needs
 
+refuse-requires : tie.Need-refuse-requires
+refuse-requires c κs = search needs
+
 returns : tie.Need-returns
 returns c =
-    let o = c .before in
-    rw (nowhere-is o)
+    let o = c .before .before in
+    rw (c .refuse .ensures)
     (refused-first _ _ _ _ _ _ _ _
-    (refusing (host o) (table o) _ (given o .args .time) (out o) _ (o .before .before .before .slot .ensures .0) (o .«open» .result) (o .«open» .ensures) (c .if1 .taken) _))
+    (refusing (host o) (table o) _ (given o .args .time) (out o) _ (o .before .before .before .slot .ensures .0) (o .«open» .result) (o .«open» .ensures) (c .before .if1 .taken) _))
 
 called : (c : tie.Else1)
     → Called (host (c .before)) (table (c .before)) (given (c .before) .args .interface) (given (c .before) .args .time) (out (c .before)) (c .before .«open» .result .table) (place (c .before))
@@ -64,8 +61,13 @@ called c = calling _ _ _ _ _ _ (c .before .before .before .before .slot .ensures
 count-requires : tie.Need-count-requires
 count-requires c κs = search needs
 
+refuse-requires-2 : tie.Need-refuse-requires-2
+refuse-requires-2 c κs = search needs
+
 returns-2 : tie.Need-returns-2
-returns-2 c = rw (nowhere-is (c .before .before .before .before)) (no-name _ _ _ _ _ _ _ _ _ (called (c .before .before .before)) _ (c .before .count .ensures) (c .if2 .taken))
+returns-2 c =
+    let n = c .before .before in
+    rw (c .refuse2 .ensures) (no-name _ _ _ _ _ _ _ _ _ (called (n .before .before)) _ (n .count .ensures) (c .before .if2 .taken))
 
 mul-n : tie.Need-mul-n
 mul-n c = search needs
@@ -76,11 +78,15 @@ element-copy-out-n c = search needs
 is-idle-requires : tie.Need-is-idle-requires
 is-idle-requires c κs = search needs
 
+refuse-requires-3 : tie.Need-refuse-requires-3
+refuse-requires-3 c κs = search needs
+
 returns-3 : tie.Need-returns-3
 returns-3 c =
-    rw (nowhere-is (c .before .before .before .before .before .before .before))
-    (busy _ _ _ _ _ _ _ _ _ (called (c .before .before .before .before .before .before)) _ (c .before .before .before .before .count .ensures) (c .before .before .before .if2 .left)
-    (ap not (sym (c .before .is-idle .ensures)) ∙ c .if3 .taken))
+    let l = c .before .before .before .before in
+    rw (c .refuse3 .ensures)
+    (busy _ _ _ _ _ _ _ _ _ (called (l .before .before .before)) _ (l .before .count .ensures) (l .if2 .left)
+    (ap not (sym (c .before .before .is-idle .ensures)) ∙ c .before .if3 .taken))
 
 mul-kind-of : tie.Need-mul-kind-of
 mul-kind-of c = search needs
@@ -117,8 +123,8 @@ mul-next c = search needs
 element-set-from-next : tie.Need-element-set-from-next
 element-set-from-next c = search needs
 
-mul-t27 : tie.Need-mul-t27
-mul-t27 c = search needs
+mul-t24 : tie.Need-mul-t24
+mul-t24 c = search needs
 
 element-set-from-host : tie.Need-element-set-from-host
 element-set-from-host c = search needs
@@ -142,26 +148,31 @@ returns-4 c =
     rw (c .group-endpoint .ensures, w .0, w .1, c .before .before .before .before .before .octets-of .ensures)
     (asked _ _ _ _ _ _ _ _ (c .before .before .before .before .before .before .if4 .taken) _ (called (opened f) .well .good-table) ∙ begun f)
 
+nowhere-requires : tie.Need-nowhere-requires
+nowhere-requires c κs = search needs
+
 returns-5 : tie.Need-returns-5
 returns-5 c =
-    let f = c .before .before in
-    rw (nowhere-is (o f)) (rested _ _ _ _ _ _ _ _ (c .if4 .left) ∙ begun f)
+    let f = c .before .before .before in
+    rw (c .nowhere .ensures) (rested _ _ _ _ _ _ _ _ (c .before .if4 .left) ∙ begun f)
 
 pub start-spec : {M : Type 1} → statement M
 start-spec =
     tie.close
     (tie.spec
-    nowhere-requires
     slot-requires
     mul-i
     element-copy-out-i
     open-requires
+    refuse-requires
     returns
     count-requires
+    refuse-requires-2
     returns-2
     mul-n
     element-copy-out-n
     is-idle-requires
+    refuse-requires-3
     returns-3
     mul-kind-of
     element-copy-out-kind-of
@@ -169,11 +180,12 @@ start-spec =
     first-requires
     mul-next
     element-set-from-next
-    mul-t27
+    mul-t24
     element-set-from-host
     octets-of-requires
     write-requires
     group-endpoint-requires
     same-length
     returns-4
+    nowhere-requires
     returns-5)

@@ -5,7 +5,7 @@ use mathlib.Core.Path.{_≡_, _∙_}
 use denote.Ref.{now}
 use Rattle.host.specs.Tick.{tick}
 use Rattle.host.specs.declared.Host.{Host}
-use Rattle.host.specs.Outcomes.{nowhere, unique}
+use Rattle.host.specs.Outcomes.{unique}
 use Rattle.responder.specs.Turn.{turned}
 use Rattle.responder.proofs.OpeningLaws.{Called, refusing, calling}
 use Rattle.responder.proofs.TurnLaws.{rested, asked}
@@ -17,7 +17,7 @@ use Rattle.responder.proofs.tick.Tie as tie
 -- what the call is given, and the place of its interface
 module _ (c : tie.After-open) where
   abbrev given : tie.Start
-  given = c .before .before .before .before .before .before .before
+  given = c .before .before .before .before .before .before
 
   abbrev host : Host
   host = given .args .t1
@@ -31,12 +31,6 @@ module _ (c : tie.After-open) where
   abbrev place : ℕ
   place = c .before .before .before .slot .result
 
-  nowhere-is : c .before .before .before .before .nowhere .result ≡ nowhere
-  nowhere-is = c .before .before .before .before .nowhere .ensures
-
-nowhere-requires : tie.Need-nowhere-requires
-nowhere-requires c κs = search needs
-
 slot-requires : tie.Need-slot-requires
 slot-requires c κs = search needs
 
@@ -49,12 +43,15 @@ element-copy-out-here c = search needs
 open-requires : tie.Need-open-requires
 open-requires c κs = search needs
 
+refuse-requires : tie.Need-refuse-requires
+refuse-requires c κs = search needs
+
 returns : tie.Need-returns
 returns c =
-    let o = c .before in
-    rw (nowhere-is o)
+    let o = c .before .before in
+    rw (c .refuse .ensures)
     (refused-first _ _ _ _ _ _ _
-    (refusing (host o) (table o) _ (given o .args .time) (out o) _ (o .before .before .before .slot .ensures .0) (o .«open» .result) (o .«open» .ensures) (c .if1 .taken) _))
+    (refusing (host o) (table o) _ (given o .args .time) (out o) _ (o .before .before .before .slot .ensures .0) (o .«open» .result) (o .«open» .ensures) (c .before .if1 .taken) _))
 
 called : (c : tie.Else1)
     → Called (host (c .before)) (table (c .before)) (given (c .before) .args .interface) (given (c .before) .args .time) (out (c .before)) (c .before .«open» .result .table) (place (c .before))
@@ -66,8 +63,13 @@ count-requires c κs = search needs
 find-due-requires : tie.Need-find-due-requires
 find-due-requires c κs = search needs
 
+nowhere-requires : tie.Need-nowhere-requires
+nowhere-requires c κs = search needs
+
 returns-2 : tie.Need-returns-2
-returns-2 c = rw (nowhere-is (c .before .before .before .before .before .before)) (none-due _ _ _ _ _ _ _ _ (called (c .before .before .before .before .before)) _ (c .before .before .count .ensures) _ (c .before .find-due .ensures) (c .if2 .taken))
+returns-2 c =
+    let d = c .before .before in
+    rw (c .nowhere .ensures) (none-due _ _ _ _ _ _ _ _ (called (d .before .before .before .before)) _ (d .before .count .ensures) _ (d .find-due .ensures) (c .before .if2 .taken))
 
 mul-i : tie.Need-mul-i
 mul-i c = search needs
@@ -133,23 +135,27 @@ returns-3 c =
     rw (c .group-endpoint .ensures, w .0, w .1, c .before .before .before .before .before .octets-of .ensures)
     (asked _ _ _ _ _ _ _ _ (c .before .before .before .before .before .before .if3 .taken) _ (called (opened f) .well .good-table) ∙ served f)
 
+nowhere-requires-2 : tie.Need-nowhere-requires-2
+nowhere-requires-2 c κs = search needs
+
 returns-4 : tie.Need-returns-4
 returns-4 c =
-    let f = c .before .before in
-    rw (nowhere-is (o f)) (rested _ _ _ _ _ _ _ _ (c .if3 .left) ∙ served f)
+    let f = c .before .before .before in
+    rw (c .nowhere2 .ensures) (rested _ _ _ _ _ _ _ _ (c .before .if3 .left) ∙ served f)
 
 pub tick-spec : {M : Type 1} → statement M
 tick-spec =
     tie.close
     (tie.spec
-    nowhere-requires
     slot-requires
     mul-here
     element-copy-out-here
     open-requires
+    refuse-requires
     returns
     count-requires
     find-due-requires
+    nowhere-requires
     returns-2
     mul-i
     element-copy-out-i
@@ -165,4 +171,5 @@ tick-spec =
     group-endpoint-requires
     same-length
     returns-3
+    nowhere-requires-2
     returns-4)

@@ -1,7 +1,6 @@
 -- `responder::contest::is_owned` meets its contract.
 use mathlib.Core.Path.{_∙_}
-use Rattle.octets.proofs.Tests.{cond-same}
-use Rattle.responder.proofs.DatagramLaws.{itself}
+use Rattle.octets.proofs.Tests.{cond-same, itself}
 use borrow.Author.Needs.{needs}
 use Rattle.responder.proofs.contest.is_owned.Statement.{statement}
 use Rattle.responder.proofs.contest.is_owned.Tie as tie

@@ -1,6 +1,4 @@
 -- `responder::contest::next` meets its contract.
-use native.Mathlib.Omega.{arith}
-use Rattle.responder.proofs.TurnLaws.{interval-most}
 use borrow.Author.Needs.{needs}
 use Rattle.responder.proofs.contest.next.Statement.{statement}
 use Rattle.responder.proofs.contest.next.Tie as tie
@@ -8,11 +6,8 @@ use Rattle.responder.proofs.contest.next.Tie as tie
 enum-told : tie.Need-enum-told
 enum-told c = search needs
 
-interval-requires : tie.Need-interval-requires
-interval-requires c κs = search needs
-
-add-t10 : tie.Need-add-t10
-add-t10 c = omega (arith, c .interval .ensures, interval-most (c .before .before .before .args .setting))
+timer-requires : tie.Need-timer-requires
+timer-requires c κs = search needs
 
 enum-told-2 : tie.Need-enum-told-2
 enum-told-2 c = search needs
@@ -21,7 +16,7 @@ enum-told-3 : tie.Need-enum-told-3
 enum-told-3 c = search needs
 
 returns : tie.Need-returns
-returns c = rw (c .before .enum-told .given .1, c .interval .ensures)
+returns c = rw (c .before .enum-told .given .1, c .timer .ensures)
 
 returns-2 : tie.Need-returns-2
 returns-2 c = rw (c .enum-told2 .given .1)
@@ -30,4 +25,4 @@ returns-3 : tie.Need-returns-3
 returns-3 c = rw (c .enum-told3 .given .1)
 
 pub next-spec : {M : Type 1} → statement M
-next-spec = tie.close (tie.spec enum-told interval-requires add-t10 enum-told-2 enum-told-3 returns returns-2 returns-3)
+next-spec = tie.close (tie.spec enum-told timer-requires enum-told-2 enum-told-3 returns returns-2 returns-3)

@@ -1,6 +1,6 @@
 -- `responder::datagram::bad_address` meets its contract.
 use borrow.Author.Tests.{eq-eqb, ne-eqb}
-use Rattle.responder.proofs.DatagramLaws.{itself, opposite}
+use Rattle.octets.proofs.Tests.{itself, opposite}
 use borrow.Author.Needs.{needs}
 use Rattle.responder.proofs.datagram.bad_address.Statement.{statement}
 use Rattle.responder.proofs.datagram.bad_address.Tie as tie
