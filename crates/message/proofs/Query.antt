@@ -16,7 +16,7 @@ use Rattle.message.specs.declared.Question.{Question}
 use Rattle.message.specs.declared.QuestionRead.the-variants.{Good as GoodQuestion}
 use Rattle.message.specs.Header.{bits, isSet, headerOf, headerAt}
 use Rattle.message.specs.Question.{questionAt, IsQuestion, questionOctets}
-use Rattle.message.specs.Query.{countOctets, queryOctets}
+use Rattle.message.specs.Query.{countOctets, queryOctets, queryWith}
 use Rattle.message.proofs.Headers.{header-good}
 use Rattle.message.proofs.Questions.{question-length, question-back, question-moves}
 
@@ -79,6 +79,11 @@ pub query-copies : (id flags : ℕ) (s : List ℕ) (at : ℕ) (q : Question) (r 
     ≡ GoodQuestion (record { name = q .name; qtype = q .qtype; class = q .class; end = headerOctets + q .name + 4 })
 unfolding queryOctets
 query-copies id flags s at q r o f = question-moves s at q o f (queryOctets id flags []) r
+
+-- A query with flags 0 is what the plain words say.
+pub query-plain : (id : ℕ) (question : List ℕ) → queryOctets id 0 question ≡ queryWith id question
+unfolding queryOctets
+query-plain id question = refl
 
 -- ---- the writers
 

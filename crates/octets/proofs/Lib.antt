@@ -4,4 +4,5 @@ pub mod Readers
 pub mod Splice
 pub mod Words
 pub mod Addresses
+pub mod PlainAddresses
 pub mod Turns

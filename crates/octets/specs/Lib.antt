@@ -3,3 +3,4 @@ pub mod Tests
 pub mod Octets
 pub mod Words
 pub mod Addresses
+pub mod PlainAddresses

@@ -1,6 +1,6 @@
 -- Laws of checks made in order.
 use Prim.Native.Nat.{ℕ}
-use mathlib.Core.Path.{_≡_, refl}
+use mathlib.Core.Path.{_≡_, refl, subst}
 use mathlib.Core.Bool.{true, false}
 use native.Mathlib.Omega.{arith}
 use Rattle.refusal.specs.Numbers.{Report}
@@ -18,6 +18,9 @@ unfolding verdict
 given (fail true t r) = stop refl
 given (fail false t r) = next refl (given r)
 given pass = done
+
+pub by-verdict : {c : Checks} {v : Verdict} → verdict c ≡ v → Gives c v
+by-verdict {c} e = subst (Gives c) e (given c)
 
 -- a call passes exactly where no test holds
 pub clear : (c : Checks) → verdict c ≡ passed → Clear c

@@ -1,2 +1,3 @@
 pub mod Checks
+pub mod Cases
 pub mod Numbers

@@ -7,36 +7,36 @@ use Rattle.refusal.specs.declared.Refusal.the-variants.{Room, Table, Int
 use Rattle.refusal.specs.Numbers.{Report, number, number-at, reportOf}
 
 -- the refusals by their numbers; number 2 tells an offset too
-abbrev by-number : List Refusal
+abbrev pub by-number : List Refusal
 by-number =
     Room ∷ Room ∷ Table 0 ∷ Interface ∷ Clock ∷ Length ∷ Address ∷ Opcode ∷ Rcode ∷ Counts ∷ Question ∷ Class ∷ NotOurs
     ∷ Stopped ∷ Notification ∷ Unmatched ∷ Own ∷ Tentative ∷ Records ∷ Busy ∷ Settings ∷ []
 
-abbrev refusalOf : Report → Refusal
+abbrev pub refusalOf : Report → Refusal
 refusalOf (number n) = getD by-number n Room
 refusalOf (number-at n at) = Table at
 
-back : (r : Refusal) → refusalOf (reportOf r) ≡ r
-back Room = refl
-back (Table at) = refl
-back Interface = refl
-back Clock = refl
-back Length = refl
-back Address = refl
-back Opcode = refl
-back Rcode = refl
-back Counts = refl
-back Question = refl
-back Class = refl
-back NotOurs = refl
-back Stopped = refl
-back Notification = refl
-back Unmatched = refl
-back Own = refl
-back Tentative = refl
-back Records = refl
-back Busy = refl
-back Settings = refl
+pub refusal-back : (r : Refusal) → refusalOf (reportOf r) ≡ r
+refusal-back Room = refl
+refusal-back (Table at) = refl
+refusal-back Interface = refl
+refusal-back Clock = refl
+refusal-back Length = refl
+refusal-back Address = refl
+refusal-back Opcode = refl
+refusal-back Rcode = refl
+refusal-back Counts = refl
+refusal-back Question = refl
+refusal-back Class = refl
+refusal-back NotOurs = refl
+refusal-back Stopped = refl
+refusal-back Notification = refl
+refusal-back Unmatched = refl
+refusal-back Own = refl
+refusal-back Tentative = refl
+refusal-back Records = refl
+refusal-back Busy = refl
+refusal-back Settings = refl
 
 pub report-one : (a b : Refusal) → reportOf a ≡ reportOf b → a ≡ b
-report-one a b e = sym (back a) ∙ ap refusalOf e ∙ back b
+report-one a b e = sym (refusal-back a) ∙ ap refusalOf e ∙ refusal-back b

@@ -1,29 +1,25 @@
 -- What a call comes to in the words of specs/States.antt, from what the definitions give.
 use Prim.Native.Nat.{ℕ, _-_, _<_, _≤_}
 use mathlib.Core.Path.{_≡_, refl, sym, ap, _∙_, subst}
-use mathlib.Core.Logic.{⊎-elim}
 use mathlib.Core.List.{List, [], _∷_, append-assoc}
 use native.Mathlib.Omega.{arith}
 use lib.ListN.{length, getD, set, take, drop, length-set}
 use lib.Seq.{getD-set-same, getD-set-other, map-set-same}
-use lib.Dec.{eqb}
-use borrow.Author.Tests.{eqb-true, eq-eqb}
 use Rattle.octets.specs.Octets.{Octets}
-use Rattle.octets.specs.Addresses.{groupOf, groupEndpoint}
 use Rattle.octets.specs.declared.Endpoint.{Endpoint}
 use Rattle.octets.proofs.Octets.{part-in, length-part}
 use Rattle.octets.proofs.Splice.{put-in, splice-start}
-use Rattle.octets.proofs.Tests.{split}
+use Rattle.octets.proofs.PlainAddresses.{group-endpoint}
 use Rattle.refusal.specs.Numbers.{number}
 use Rattle.name_table.specs.Check.{Held, noName, namesIn, nameIn}
 use Rattle.name_table.proofs.Held.{held-name}
 use Rattle.message.specs.declared.Question.{Question}
 use Rattle.message.specs.declared.QuestionRead.the-variants.{Good}
 use Rattle.message.specs.Question.{questionAt}
-use Rattle.message.specs.Query.{queryOctets}
+use Rattle.message.specs.Query.{queryOctets, queryWith}
 use Rattle.message.proofs.Questions.{reads-a-question}
-use Rattle.message.proofs.Query.{query-length}
-use Rattle.host.specs.State.{offName, absent, interfaceOf, settingOf, stateOf, withClock, withState, intervalOf}
+use Rattle.message.proofs.Query.{query-length, query-plain}
+use Rattle.host.specs.State.{offName, absent, interfaceOf, settingOf, stateOf, withClock, withState}
 use Rattle.host.specs.Outcomes.{Result, Done, refusal, silent}
 use Rattle.host.specs.Asking.{checkQuery, asking}
 use Rattle.host.specs.Receive.{Arrival, questionIn}
@@ -34,24 +30,12 @@ use Rattle.host.specs.declared.Interface.{Interface}
 use Rattle.host.specs.declared.Host.{Host}
 use Rattle.host.proofs.Laws.{other-names}
 use Rattle.host.proofs.Sent.{check-fits}
-use Rattle.witness.specs.States.{Interval, short, long, Group, group-4, group-6, Place, Refuses, Leaves, Moves, Becomes, Asks, queryWith, checkOf}
+use Rattle.witness.specs.States.{Place, Refuses, Leaves, Moves, Becomes, Asks, checkOf}
 
--- ---- the plain words
-
-pub interval-is : (h : Host) (i n : ℕ) → Interval h i n → intervalOf (settingOf h i) ≡ n
-interval-is h i n (short e) = rw (eq-eqb _ _ e)
-interval-is h i n (long d) = split (eqb (settingOf h i .interval) 100) (λ t. absurd (d (eqb-true _ _ t))) (λ t. rw t)
-
-pub group-is : (h : Host) (i : ℕ) → IsUsed h i → Group h i (groupEndpoint (settingOf h i .family))
-unfolding groupEndpoint groupOf
-group-is h i = ⊎-elim (λ e. rw e (group-4 e)) (λ e. rw e (group-6 e))
-
-query-is : (id : ℕ) (question : List ℕ) → queryOctets id 0 question ≡ queryWith id question
-unfolding queryOctets
-query-is id question = refl
+-- ---- queries
 
 check-is : (id : ℕ) (name : List ℕ) → checkQuery id name ≡ checkOf id name
-check-is id name = ap (queryOctets id 0) (append-assoc name (0 ∷ 255 ∷ []) (0 ∷ 1 ∷ [])) ∙ query-is id _
+check-is id name = ap (queryOctets id 0) (append-assoc name (0 ∷ 255 ∷ []) (0 ∷ 1 ∷ [])) ∙ query-plain id _
 
 -- the question as received
 pub question-out : (a : Arrival) (q : Question) → Octets (a .datagram) → questionAt (a .datagram) 12 ≡ Good q
@@ -62,7 +46,7 @@ question-out a q o e =
     let u : 12 ≤ q .end = omega (arith, f .end) in
     let v : q .end ≤ length (a .datagram) = omega (arith, f .end, f .whole) in
     let n : q .name ≤ 255 = omega (arith, f .name .len-is, f .name .is-name .short) in (
-      ap (queryOctets (a .id) 0) (part-in (a .datagram) 12 (q .end) u v) ∙ query-is (a .id) _,
+      ap (queryOctets (a .id) 0) (part-in (a .datagram) 12 (q .end) u v) ∙ query-plain (a .id) _,
       omega (arith, query-length (a .id) 0 (questionIn a q), length-part (a .datagram) 12 (q .end) u v, f .end),
     )
 
@@ -113,7 +97,7 @@ module _ (h : Host) (i k : ℕ) (p : Place h i k) (s : NameState) (time : ℕ) w
       → Asks h i k s time sent out d
   asks sent out d u l e =
       subst (Asks h i k s time sent out) (sym e)
-      (record { moves = moves _ _ _; result = refl; octets = put-in out 0 sent (omega arith) ∙ splice-start out sent; to = group-is h i u })
+      (record { moves = moves _ _ _; result = refl; octets = put-in out 0 sent (omega arith) ∙ splice-start out sent; to = group-endpoint _ u })
 
   -- the query of a check
   pub asks-check : (id : ℕ) (table : List ℕ) (names : List Held) (out : List ℕ) (d : Done) → Octets table → CalledWell h table i time out names

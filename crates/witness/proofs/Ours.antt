@@ -1,67 +1,36 @@
--- The groups' addresses, the host's own and those below an interface's, in the plain words of specs/States.antt.
-use mathlib.Core.Path.{_≡_, refl, sym, _∙_, subst}
-use mathlib.Core.Logic.{_↔_, inl, inr, ⊎-elim}
+-- The host's own addresses and those below an interface's, in the plain words of specs/States.antt.
+use mathlib.Core.Path.{_≡_, sym, _∙_, subst}
+use mathlib.Core.Logic.{_↔_, Iff·trans, ⊎-elim}
 use mathlib.Core.Bool.{true}
-use Rattle.octets.specs.Addresses.{addressOf, groupOf, isGroup, belowAddress, hasAddress}
+use Rattle.octets.specs.Addresses.{addressOf, belowAddress}
+use Rattle.octets.specs.PlainAddresses.{IsOf}
 use Rattle.octets.specs.declared.Address.{Address}
 use Rattle.octets.specs.declared.Setting.{Setting}
-use Rattle.octets.proofs.Addresses.{same-address, below-address, ours}
-use Rattle.octets.proofs.Tests.{both, either-number}
+use Rattle.octets.proofs.Addresses.{below-address}
+use Rattle.octets.proofs.PlainAddresses.{ours-plain}
 use Rattle.host.specs.State.{isOwn, settingOf, settingsOf}
 use Rattle.host.specs.ExactlyWhen.{IsUsed}
 use Rattle.host.specs.Receive.{Arrival}
 use Rattle.host.specs.declared.Host.{Host}
 use Rattle.host.proofs.Laws.{setting-there}
-use Rattle.witness.specs.States.{IsGroup, is-group-4, is-group-6, IsOf, is-4, is-6, Ours, FromBelow, below-4, below-6}
-
--- ---- a group's
-
-pub group-address : (x : Address) → (isGroup x ≡ true) ↔ IsGroup x
-unfolding isGroup groupOf
-group-address x = (there, back)
-  where
-    there : isGroup x ≡ true → IsGroup x
-    there e =
-        let t = both _ _ .0 e in
-        let o = same-address x (groupOf (x .family)) .0 (t .1) .1 in
-        ⊎-elim (λ f. is-group-4 f (rw f at o)) (λ f. is-group-6 f (rw f at o)) (either-number _ 4 6 .0 (t .0))
-
-    back : IsGroup x → isGroup x ≡ true
-    back (is-group-4 f o) = both _ _ .1 (either-number _ 4 6 .1 (inl f), same-address x (groupOf (x .family)) .1 (refl, rw f o))
-    back (is-group-6 f o) = both _ _ .1 (either-number _ 4 6 .1 (inr f), same-address x (groupOf (x .family)) .1 (refl, rw f o))
+use Rattle.witness.specs.States.{Ours, FromBelow, below-4, below-6}
 
 -- ---- our own
 
-has-is : (s : Setting) (x : Address) → (hasAddress s x ≡ true) ↔ IsOf s x
-unfolding hasAddress
-has-is s x = (there, back)
-  where
-    there : hasAddress s x ≡ true → IsOf s x
-    there e =
-        let t = both _ _ .0 e in
-        let u = same-address x (addressOf s) .0 (t .1) in
-        let o = u .1 in
-        ⊎-elim
-        (λ f. let g : x .family ≡ 4 = u .0 ∙ f in is-4 f g (rw (g, f) at o))
-        (λ f. let g : x .family ≡ 6 = u .0 ∙ f in is-6 f g (rw (g, f) at o))
-        (either-number _ 4 6 .0 (t .0))
-
-    back : IsOf s x → hasAddress s x ≡ true
-    back (is-4 f g o) = both _ _ .1 (either-number _ 4 6 .1 (inl f), same-address x (addressOf s) .1 (g ∙ sym f, rw (g, f) o))
-    back (is-6 f g o) = both _ _ .1 (either-number _ 4 6 .1 (inr f), same-address x (addressOf s) .1 (g ∙ sym f, rw (g, f) o))
-
 pub ours-is : (h : Host) (x : Address) → (isOwn h x ≡ true) ↔ Ours h x
-ours-is h x = (
-  λ e.
-      let t = ours (settingsOf (h .interfaces)) x .0 e in
+ours-is h x = Iff·trans (ours-plain (settingsOf (h .interfaces)) x) (
+  λ w.
       record {
-        interface = t .0;
-        below = t .1;
-        same = has-is _ x .0 (subst (λ (s : Setting). hasAddress s x ≡ true) (setting-there (h .interfaces) (t .0)) (t .2));
+        interface = w .interface;
+        below = w .below;
+        same = subst (λ (s : Setting). IsOf s x) (setting-there (h .interfaces) (w .interface)) (w .same);
       },
   λ w.
-      ours (settingsOf (h .interfaces)) x .1
-      (w .interface, w .below, subst (λ (s : Setting). hasAddress s x ≡ true) (sym (setting-there (h .interfaces) (w .interface))) (has-is _ x .1 (w .same))),
+      record {
+        interface = w .interface;
+        below = w .below;
+        same = subst (λ (s : Setting). IsOf s x) (sym (setting-there (h .interfaces) (w .interface))) (w .same);
+      },
 )
 
 -- ---- from below

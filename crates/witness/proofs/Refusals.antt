@@ -2,19 +2,21 @@
 -- specs/Refusals.antt lists them.
 use Prim.Native.Nat.{ℕ, zero, suc, _<_, _≤_}
 use mathlib.Core.Path.{_≡_, refl, sym, ap, _∙_, subst}
-use mathlib.Core.Logic.{_↔_, Iff·trans, _≢_, _⊎_, inl, inr, ⊎-elim}
-use mathlib.Core.List.{List, [], _∷_}
+use mathlib.Core.Logic.{_↔_, Iff·trans, _≢_, inl, inr, ⊎-elim}
+use mathlib.Core.List.{List, _∷_}
 use mathlib.Core.Bool.{Bool, true, false, not}
 use native.Mathlib.Omega.{arith}
 use lib.ListN.{length, getD}
 use lib.Dec.{ltb, leb, eqb}
-use borrow.Author.Tests.{eqb-true, eqb-false, eq-eqb}
-use Rattle.octets.specs.Tests.{_and_, _or_}
+use borrow.Author.Tests.{eqb-true, eqb-false}
 use Rattle.octets.specs.Addresses.{unused}
 use Rattle.octets.specs.declared.Setting.{Setting}
-use Rattle.octets.proofs.Tests.{split, both, either, either-way, never, below-number, upto-number, either-number, neither}
-use Rattle.refusal.specs.Numbers.{Report, number, number-at}
+use Rattle.octets.proofs.PlainAddresses.{group-address}
+use Rattle.octets.proofs.Tests.{split, either, never, either-is, both-is, below-number, upto-number, either-number, not-true, neither, neither-number}
+use Rattle.refusal.specs.Numbers.{Report, number-at}
 use Rattle.refusal.specs.Checks.{Checks, fail, pass, Verdict, refused as refusedBy, passed, verdict}
+use Rattle.refusal.specs.Cases.{Case, case-at, First}
+use Rattle.refusal.proofs.Cases.{Exactly, same-report, ends, check, told-by}
 use Rattle.name_table.specs.Kinds.{kindOf, isSharedKind}
 use Rattle.name_table.specs.Check.{Held, Checked, good, bad, checkTable, namesIn, nameIn, isBad, badAt}
 use Rattle.host.specs.Bounds.{sendsInAll}
@@ -28,49 +30,11 @@ use Rattle.host.specs.declared.NameState.{NameState}
 use Rattle.host.specs.declared.NameState.the-variants.{Off, Verifying, Unique, Defending, Stopped, Shared}
 use Rattle.host.specs.declared.Host.{Host}
 use Rattle.host.proofs.Conditions.{not-off, not-stopped}
-use Rattle.witness.specs.Refusals.{Case, case, case-at, First, IsBadSetting, setUpCases, earlyCases, startCases, tickCases}
-use Rattle.witness.proofs.Ours.{group-address}
+use Rattle.witness.specs.Refusals.{IsBadSetting, setUpCases, earlyCases, startCases, tickCases}
 
 -- ---- checks and cases
 
--- the checks refuse exactly as the cases say
-pub record Exactly (c : Checks) (cases : List Case) : Type 0 where
-  pub exactly : (t : Report) → (verdict c ≡ refusedBy t) ↔ First t cases
-
-same-report : (s t : Report) → refusedBy s ≡ refusedBy t → t ≡ s
-same-report s t e = cc
-
--- none is left
-pub ends : Exactly pass []
-unfolding verdict
-ends = record { exactly = λ t. (λ e. let z : _≡_ {A = ℕ} 0 1 = cc in absurd (omega arith), λ z. absurd z) }
-
--- a check whose test holds exactly under a condition; those that follow are looked at where it does not hold
-pub check : (b : Bool) (n : ℕ) {c : Type 0} {r : Checks} {rest : List Case} → (b ≡ true) ↔ c → (b ≡ false → Exactly r rest)
-    → Exactly (fail b (number n) r) (case n c ∷ rest)
-unfolding verdict
-check true n i f =
-    record {
-      exactly = λ t. (
-        λ e. inl (same-report _ _ e, i .0 refl),
-        ⊎-elim (λ x. ap refusedBy (sym (x .0))) (λ x. absurd (x .0 (i .0 refl))),
-      );
-    }
-check false n i f =
-    record {
-      exactly = λ t. (
-        λ e. inr (λ x. never (i .1 x) refl, f refl .exactly t .0 e),
-        ⊎-elim (λ x. never (i .1 (x .1)) refl) (λ x. f refl .exactly t .1 (x .1)),
-      );
-    }
-
--- a check that cannot hold has no case
-pub skip : (b : Bool) (u : Report) {r : Checks} {rest : List Case} → b ≡ false → Exactly r rest → Exactly (fail b u r) rest
-unfolding verdict
-skip true u e f = never refl e
-skip false u e f = record { exactly = f .exactly }
-
--- the table's, with the offset
+-- the table's check, with the offset
 pub check-table : (c : Checked) {r : Checks} {rest : List Case} → ((names : List Held) → c ≡ good names → Exactly r rest)
     → Exactly (fail (isBad c) (number-at 2 (badAt c)) r) (case-at 2 (λ at. c ≡ bad at) ∷ rest)
 unfolding verdict
@@ -92,34 +56,7 @@ check-table (good names) f =
 -- a call's result is a refusal exactly if its verdict is one
 pub refused-by : (done : Verdict → Done) → ((t : Report) → done (refusedBy t) .result ≡ refused t) → isRefused (done passed .result) ≡ false
     → (v : Verdict) (t : Report) → (done v .result ≡ refused t) ↔ (v ≡ refusedBy t)
-refused-by done r p (refusedBy s) t = (λ e. let q = r s in cc, λ e. let q = r t in let w = ap (λ (v : Verdict). done v .result) e in w ∙ q)
-refused-by done r p passed t = (λ e. never (ap isRefused e) p, λ e. let z : _≡_ {A = ℕ} 0 1 = cc in absurd (omega arith))
-
--- ---- tests that do not hold, plainly
-
-pub not-true : (b : Bool) → (not b ≡ true) ↔ (b ≡ false)
-not-true true = (λ e. never e refl, λ e. never refl e)
-not-true false = (λ e. refl, λ e. refl)
-
--- a test does not hold exactly if its condition does not
-pub not-is : (b : Bool) {c : Type 0} → (b ≡ true) ↔ c → (b ≡ false) ↔ (c → ⊥)
-not-is true i = (λ e. never refl e, λ n. absurd (n (i .0 refl)))
-not-is false i = (λ e x. never (i .1 x) refl, λ e. refl)
-
-pub unlike-number : (m n : ℕ) → (not (eqb m n) ≡ true) ↔ (m ≢ n)
-unlike-number m n = Iff·trans (not-true _) (not-is _ (eqb-true m n, eq-eqb m n))
-
--- a number is neither of two
-pub neither-number : (n p q : ℕ) → (not (eqb n p or eqb n q) ≡ true) ↔ ((n ≢ p) × (n ≢ q))
-neither-number n p q =
-    Iff·trans (not-true _)
-    (Iff·trans (not-is _ (either-number n p q)) (λ f. (λ e. f (inl e), λ e. f (inr e)), λ f. ⊎-elim (f .0) (f .1)))
-
-pub either-is : (p q : Bool) {c d : Type 0} → (p ≡ true) ↔ c → (q ≡ true) ↔ d → ((p or q) ≡ true) ↔ (c ⊎ d)
-either-is p q i j = Iff·trans (either p q) (either-way i j)
-
-pub both-is : (p q : Bool) {c d : Type 0} → (p ≡ true) ↔ c → (q ≡ true) ↔ d → ((p and q) ≡ true) ↔ (c × d)
-both-is p q i j = Iff·trans (both p q) (λ x. (i .0 (x .0), j .0 (x .1)), λ x. (i .1 (x .0), j .1 (x .1)))
+refused-by done r p = told-by refused isRefused (λ v. done v .result) (λ t. refl) (λ s t e. cc) r p
 
 -- ---- 1 to 4
 

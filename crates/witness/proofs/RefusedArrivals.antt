@@ -7,9 +7,12 @@ use mathlib.Core.List.{List}
 use mathlib.Core.Bool.{Bool, true, false, cond, not}
 use Rattle.octets.specs.Tests.{_or_}
 use Rattle.octets.specs.Addresses.{isGroup}
-use Rattle.octets.proofs.Tests.{split, never, below-number, only-first}
+use Rattle.octets.proofs.PlainAddresses.{group-address}
+use Rattle.octets.proofs.Tests.{split, never, either-is, both-is, only, below-number, not-true, only-first, not-is, unlike-number, neither-number}
 use Rattle.refusal.specs.Numbers.{Report}
 use Rattle.refusal.specs.Checks.{verdict}
+use Rattle.refusal.specs.Cases.{Case, First}
+use Rattle.refusal.proofs.Cases.{Exactly, ends, check, skip}
 use Rattle.name_table.specs.declared.Found.{Found}
 use Rattle.name_table.specs.declared.Found.the-variants.{At, Nothing}
 use Rattle.name_table.specs.Check.{Held, good, checkTable, namesIn, isFound, numberOr}
@@ -25,16 +28,11 @@ use Rattle.host.specs.declared.NameState.{NameState}
 use Rattle.host.specs.declared.NameState.the-variants.{Off, Verifying, Unique, Defending, Stopped, Shared}
 use Rattle.host.specs.declared.Host.{Host}
 use Rattle.host.proofs.Conditions.{question-good, is-off, is-stopped, is-unique, waits-is}
-use Rattle.witness.specs.Refusals.{Case, First, IsAwaited, OfQuestion, IsFor, IsForNone, IsBadLength, IsBadAddress, queryCases, responseCases, receiveCases}
-use Rattle.witness.proofs.Refusals.{Exactly, ends, check, skip, refused-by, not-true, not-is, unlike-number, neither-number, either-is, both-is, early-exactly}
-use Rattle.witness.proofs.Ours.{group-address, ours-is}
+use Rattle.witness.specs.Refusals.{IsAwaited, OfQuestion, IsFor, IsForNone, IsBadLength, IsBadAddress, queryCases, responseCases, receiveCases}
+use Rattle.witness.proofs.Refusals.{refused-by, early-exactly}
+use Rattle.witness.proofs.Ours.{ours-is}
 
 -- ---- tests, plainly
-
--- the second of two tests does not hold
-only : (p q : Bool) {c : Type 0} → q ≡ false → (p ≡ true) ↔ c → ((p or q) ≡ true) ↔ c
-only true q e i = i
-only false q e i = (λ x. never x e, λ x. never (i .1 x) refl)
 
 question-bad : (r : QuestionRead) → (isBadQuestion r ≡ true) ↔ (r ≡ Bad)
 question-bad (Good q) = (λ e. never e refl, λ e. never (ap isBadQuestion e) refl)

@@ -16,6 +16,7 @@ use Rattle.name_table.specs.Check.{Held, noName}
 use Rattle.message.specs.declared.Question.{Question}
 use Rattle.message.specs.declared.HeaderRead.the-variants.{Good}
 use Rattle.message.specs.Header.{headerOf}
+use Rattle.message.specs.Query.{queryWith}
 use Rattle.message.specs.Reply.{replyHeader}
 use Rattle.host.specs.State.{isOwn, settingOf, stateOf, off, unique, stopped, shared, verifying, is, timerFrom}
 use Rattle.host.specs.Outcomes.{Done, shared as sharedName, kept, stopped as stoppedName}
@@ -27,12 +28,12 @@ use Rattle.host.specs.declared.NameState.{NameState}
 use Rattle.host.specs.declared.NameState.the-variants.{Off, Verifying, Unique, Defending, Stopped, Shared}
 use Rattle.host.specs.declared.Host.{Host}
 use Rattle.host.proofs.Arrives.{receive-by, is-found, state-is, query-gives}
-use Rattle.host.proofs.Conditions.{not-off, not-stopped, is-false}
+use Rattle.host.proofs.Conditions.{not-off, not-stopped, interval-is, is-false}
 use Rattle.host.proofs.Started.{start-asks, start-shares, is-busy}
 use Rattle.host.proofs.Received.{replies, defends, stops-it, keeps-it, not-ours, has-stopped, not-awaited, own-address}
 use Rattle.host.proofs.Sent.{reply-read}
-use Rattle.witness.specs.States.{Interval, Ours, Place, dueAt, Refuses, Replies, Becomes, Asks, queryWith, checkOf, UniqueStarts, SharedStarts, ClearQuery, Notification, OwnNotification, FromBelow, Stops, Keeps, Response}
-use Rattle.witness.proofs.Comes.{interval-is, question-out, refuses, leaves, becomes, asks, asks-check}
+use Rattle.witness.specs.States.{Interval, Ours, Place, dueAt, Refuses, Replies, Becomes, Asks, checkOf, UniqueStarts, SharedStarts, ClearQuery, Notification, OwnNotification, FromBelow, Stops, Keeps, Response}
+use Rattle.witness.proofs.Comes.{question-out, refuses, leaves, becomes, asks, asks-check}
 use Rattle.witness.proofs.Ours.{ours-is, is-below, from-below}
 
 -- ---- starts
@@ -64,7 +65,7 @@ module _ (h : Host) (table : List ℕ) (names : List Held) (i k time id : ℕ) (
     where
       starts : (stateOf h i k ≡ Off) ⊎ (stateOf h i k ≡ Stopped) → Asks h i k (Verifying 1 id (dueAt (time + n))) time (checkOf id name) out (start h table i k time id out)
       starts s =
-          subst (λ (m : ℕ). Asks h i k (Verifying 1 id (dueAt (time + m))) time (checkOf id name) out (start h table i k time id out)) (interval-is h i n v)
+          subst (λ (m : ℕ). Asks h i k (Verifying 1 id (dueAt (time + m))) time (checkOf id name) out (start h table i k time id out)) (interval-is _ n v)
           (asks-check h i k p _ time id table names out _ o called in-table (start-asks h table i k time id out (idle 1 e s)))
 
       go : (s : NameState) → stateOf h i k ≡ s → UniqueStarts h i k n time id name out s (start h table i k time id out)
@@ -161,7 +162,7 @@ module _ (h : Host) (a : Arrival) (names : List Held) (q : Question) (k : ℕ) (
           let s = question-out a q octets (w .arrives .question) in
           let b = asks h (a .interface) k p _ (a .time) _ (a .out) _ (w .arrives .called .used) (omega (arith, s .1, w .arrives .called .room))
           (defends h a k (record { names = names; q = q; query = w; name = f; c-set = c; unique = e; not-ours = is-false _ (ours-is h _) o })) in
-          subst (λ (m : ℕ). Asks h (a .interface) k (Defending (a .id) (q .qtype) (q .class) (dueAt (a .time + m))) (a .time) sent (a .out) (receive h a)) (interval-is h (a .interface) n v)
+          subst (λ (m : ℕ). Asks h (a .interface) k (Defending (a .id) (q .qtype) (q .class) (dueAt (a .time + m))) (a .time) sent (a .out) (receive h a)) (interval-is _ n v)
           (subst (λ (x : List ℕ). Asks h (a .interface) k (Defending (a .id) (q .qtype) (q .class) (timerFrom (settingOf h (a .interface)) (a .time))) (a .time) x (a .out) (receive h a)) (s .0) b)
 
       go : (s : NameState) → stateHere h a k ≡ s → Notification h a q k n s (receive h a)

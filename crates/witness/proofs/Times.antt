@@ -1,6 +1,6 @@
 -- The ticks of the table of specs/States.antt; that a check is due exactly an interval after its last send; and what a refused set-up gives.
 use Prim.Native.Nat.{ℕ, zero, suc, _+_, _<_, _≤_}
-use mathlib.Core.Path.{_≡_, refl, sym, ap, _∙_, subst}
+use mathlib.Core.Path.{_≡_, refl, sym, ap, subst}
 use mathlib.Core.Logic.{_↔_, Iff·rfl, _⊎_, ⊎-elim}
 use mathlib.Core.List.{List, [], _∷_}
 use mathlib.Core.Bool.{true}
@@ -9,6 +9,7 @@ use lib.ListN.{length, getD}
 use lib.Dec.{eqb, ltb}
 use borrow.Author.Tests.{eqb-true, eqb-false, ltb-true, ltb-false}
 use Rattle.octets.specs.Octets.{Octets}
+use Rattle.octets.specs.PlainAddresses.{nothing}
 use Rattle.octets.specs.declared.Setting.{Setting}
 use Rattle.octets.proofs.Tests.{split}
 use Rattle.refusal.specs.Numbers.{Report}
@@ -16,7 +17,7 @@ use Rattle.refusal.specs.Checks.{pass, Clear}
 use Rattle.name_table.specs.Check.{Held, good, noName, checkTable, namesIn}
 use Rattle.message.specs.declared.Question.{Question}
 use Rattle.message.specs.Header.{headerOf}
-use Rattle.host.specs.State.{settingOf, stateOf}
+use Rattle.host.specs.State.{stateOf, IsInterval}
 use Rattle.host.specs.Outcomes.{Done, refused, ready, quiet, unique as uniqueName}
 use Rattle.host.specs.SetUp.{setUp}
 use Rattle.host.specs.Start.{start}
@@ -30,11 +31,12 @@ use Rattle.host.specs.declared.NameState.{NameState}
 use Rattle.host.specs.declared.NameState.the-variants.{Off, Verifying, Unique, Defending, Stopped, Shared}
 use Rattle.host.specs.declared.Host.{Host}
 use Rattle.host.proofs.Called.{called-is}
+use Rattle.host.proofs.Conditions.{interval-is}
 use Rattle.host.proofs.Started.{sets-up}
 use Rattle.host.proofs.Ticked.{tick-rests, tick-settles, tick-asks}
 use Rattle.host.proofs.Laws.{set-up-refused}
-use Rattle.witness.specs.States.{Interval, short, long, Place, Leaves, Moves, Becomes, Asks, checkOf, IsDue, First, Alone, VerifyingTicks, Ticks, dueAt, nothing, Ours, UniqueStarts, Notification, WaitsUntil, verifying, defending, Serves, asks-again, settles, DueExactly, zeros, hostOf}
-use Rattle.witness.proofs.Comes.{interval-is, leaves, becomes, asks-check}
+use Rattle.witness.specs.States.{Interval, Place, Leaves, Moves, Becomes, Asks, checkOf, IsDue, First, Alone, VerifyingTicks, Ticks, dueAt, Ours, UniqueStarts, Notification, WaitsUntil, verifying, defending, Serves, asks-again, settles, DueExactly, zeros, hostOf}
+use Rattle.witness.proofs.Comes.{leaves, becomes, asks-check}
 use Rattle.witness.proofs.States.{unique-starts, notification}
 use Rattle.witness.proofs.Whole.{passed-all}
 
@@ -114,7 +116,7 @@ module _ (h : Host) (table : List ℕ) (names : List Held) (i k time id : ℕ) (
               before = λ l. idle _ e (λ w. omega arith);
               again =
                   λ w l.
-                  subst (λ (m : ℕ). Asks h i k (Verifying (sends + 1) own (dueAt (time + m))) time (checkOf own name) out (tick h table i time id out)) (interval-is h i n v)
+                  subst (λ (m : ℕ). Asks h i k (Verifying (sends + 1) own (dueAt (time + m))) time (checkOf own name) out (tick h table i time id out)) (interval-is _ n v)
                   (asks-check h i k p _ time own table names out _ o called in-table
                   (tick-asks h table i time out id k sends own timer
                   (record { serves = serves first (subst (λ (x : NameState). IsDue x time) (sym e) w); verifying = e; few = l })));
@@ -127,17 +129,13 @@ module _ (h : Host) (table : List ℕ) (names : List Held) (i k time id : ℕ) (
 
 -- ---- after a call that has left the k-th name in a state
 
-same-interval : (h g : Host) (i n : ℕ) → settingOf g i ≡ settingOf h i → Interval h i n → Interval g i n
-same-interval h g i n e (short q) = short (ap (λ (s : Setting). s .interval) e ∙ q)
-same-interval h g i n e (long d) = long (λ q. d (sym (ap (λ (s : Setting). s .interval) e) ∙ q))
-
 -- A later tick finds the name in that state, with the interval as it was: so it is due exactly n after a send.
 pub next-tick : (h : Host) (table : List ℕ) (names : List Held) (i k n sent : ℕ) (s : NameState) (d : Done) → Octets table → Interval h i n → Moves h i k s sent d
     → (time id : ℕ) (out : List ℕ) → CalledWell (d .host) table i time out names → k < length names → First (d .host) i k time
     → Ticks (d .host) i k (length names) n time (getD names k noName .octets) out s (tick (d .host) table i time id out)
 next-tick h table names i k n sent s d o v m time id out called in-table first =
     subst (λ (x : NameState). Ticks (d .host) i k (length names) n time (getD names k noName .octets) out x (tick (d .host) table i time id out)) (m .state)
-    (ticks (d .host) table names i k time id out called in-table (m .place) n o (same-interval h (d .host) i n (m .setting) v) first)
+    (ticks (d .host) table names i k time id out called in-table (m .place) n o (subst (λ (x : Setting). IsInterval x n) (sym (m .setting)) v) first)
 
 -- ---- due exactly an interval after the last send
 

@@ -12,19 +12,20 @@ use lib.Dec.{eqb}
 use borrow.Author.Tests.{eqb-true, eqb-false}
 use Rattle.octets.specs.declared.Endpoint.{Endpoint}
 use Rattle.octets.specs.declared.Setting.{Setting}
+use Rattle.octets.proofs.PlainAddresses.{group-one}
 use Rattle.octets.proofs.Tests.{split, never}
 use Rattle.refusal.specs.Numbers.{Report, number}
 use Rattle.refusal.specs.Checks.{Checks, Verdict, refused as refusedBy, passed, verdict, Clear}
+use Rattle.refusal.specs.Cases.{Case, First}
 use Rattle.refusal.proofs.Checks.{clear}
-use Rattle.host.specs.State.{offName, absent, interfaceOf, settingOf, stateOf}
+use Rattle.host.specs.State.{offName, absent, interfaceOf, stateOf}
 use Rattle.host.specs.Outcomes.{Result, refused, ready, quiet, kept, unique, shared, stopped, query, reply, isRefused, Done}
 use Rattle.host.specs.Laws.{Unchanged, Accepted}
 use Rattle.host.specs.declared.NameState.{NameState}
 use Rattle.host.specs.declared.Name.{Name}
 use Rattle.host.specs.declared.Interface.{Interface}
 use Rattle.host.specs.declared.Host.{Host}
-use Rattle.witness.specs.Refusals.{Case, First}
-use Rattle.witness.specs.States.{Interval, short, long, Group, group-4, group-6, Place, Refuses, Leaves, Moves, Becomes, Asks, hostOf}
+use Rattle.witness.specs.States.{Place, Refuses, Leaves, Moves, Becomes, Asks, hostOf}
 use Rattle.witness.specs.Whole.{Full, RefusedExactly}
 
 -- ---- hosts
@@ -115,16 +116,10 @@ pub becomes-one : (h : Host) (i k : ℕ) (s : NameState) (time : ℕ) (out : Lis
 becomes-one h i k s time out r d e v w =
     same-done (moves-one h i k s time d e (v .moves) (w .moves)) (v .result ∙ sym (w .result)) (v .to ∙ sym (w .to)) (v .octets ∙ sym (w .octets))
 
-group-one : (h : Host) (i : ℕ) (x y : Endpoint) → Group h i x → Group h i y → x ≡ y
-group-one h i x y (group-4 e) (group-4 f) = refl
-group-one h i x y (group-4 e) (group-6 f) = absurd (omega arith)
-group-one h i x y (group-6 e) (group-4 f) = absurd (omega arith)
-group-one h i x y (group-6 e) (group-6 f) = refl
-
 pub asks-one : (h : Host) (i k : ℕ) (s : NameState) (time : ℕ) (sent out : List ℕ) (d e : Done)
     → Asks h i k s time sent out d → Asks h i k s time sent out e → d ≡ e
 asks-one h i k s time sent out d e v w =
-    same-done (moves-one h i k s time d e (v .moves) (w .moves)) (v .result ∙ sym (w .result)) (group-one h i _ _ (v .to) (w .to)) (v .octets ∙ sym (w .octets))
+    same-done (moves-one h i k s time d e (v .moves) (w .moves)) (v .result ∙ sym (w .result)) (group-one _ _ _ (v .to) (w .to)) (v .octets ∙ sym (w .octets))
 
 pub leaves-one : (h : Host) (time : ℕ) (out : List ℕ) (r : Result) (d e : Done) → Leaves h time out r d → Leaves h time out r e → d ≡ e
 leaves-one h time out r d e v w =
@@ -181,10 +176,6 @@ passed-all done r c a = go (verdict c) refl a
     go passed e x = clear c e
 
 -- ---- what a host and a table have
-
-pub has-interval : (h : Host) (i : ℕ) → (n : ℕ) × Interval h i n
-has-interval h i =
-    split (eqb (settingOf h i .interval) 100) (λ t. (100, short (eqb-true _ _ t))) (λ t. (1000, long (eqb-false _ _ t)))
 
 pub place-in : (h : Host) (i k : ℕ) → Full h → i < 4 → k < 8 → Place h i k
 place-in h i k f l m = record { interface = omega (arith, f .four); name = omega (arith, f .eight i l) }

@@ -19,6 +19,7 @@ use Rattle.name_table.proofs.Meaning.{good-iff}
 use Rattle.message.specs.declared.Question.{Question}
 use Rattle.message.specs.Header.{headerOf}
 use Rattle.message.specs.Question.{questionOr}
+use Rattle.message.specs.Query.{queryWith}
 use Rattle.host.specs.State.{stateOf, settingOf, off, unique, is}
 use Rattle.host.specs.Outcomes.{Done}
 use Rattle.host.specs.Laws.{Accepted}
@@ -28,11 +29,11 @@ use Rattle.host.specs.declared.NameState.{NameState}
 use Rattle.host.specs.declared.NameState.the-variants.{Off, Verifying, Unique, Defending, Stopped, Shared}
 use Rattle.host.specs.declared.Host.{Host}
 use Rattle.host.proofs.Arrives.{after-11, query-is, response-is}
-use Rattle.host.proofs.Conditions.{found-at, not-off, not-stopped}
+use Rattle.host.proofs.Conditions.{found-at, not-off, not-stopped, has-interval}
 use Rattle.host.proofs.Laws.{receive-refused}
 use Rattle.witness.specs.Refusals.{receiveCases}
 use Rattle.witness.specs.Replies.{WholeReply, ReplyFrom}
-use Rattle.witness.specs.States.{Interval, Ours, Place, dueAt, Asks, queryWith, Notification, FromBelow, Response}
+use Rattle.witness.specs.States.{Interval, Ours, Place, dueAt, Asks, Notification, FromBelow, Response}
 use Rattle.witness.specs.Whole.{Full, ForName, Heard, PlainReceive}
 use Rattle.witness.proofs.RefusedArrivals.{awaited-is, receive-refused-exactly}
 use Rattle.witness.proofs.Replies.{reply-whole}
@@ -40,7 +41,7 @@ use Rattle.witness.proofs.OneReply.{one-reply}
 use Rattle.witness.proofs.OnlyItsOwn.{owns-one}
 use Rattle.witness.proofs.Ours.{ours-is, is-below, from-below}
 use Rattle.witness.proofs.States.{notification, response}
-use Rattle.witness.proofs.Whole.{moves-full, same-full, becomes-one, asks-one, leaves-one, not-refused, same-if-accepted, full-if-accepted, refused-exactly, passed-all, has-interval, place-in}
+use Rattle.witness.proofs.Whole.{moves-full, same-full, becomes-one, asks-one, leaves-one, not-refused, same-if-accepted, full-if-accepted, refused-exactly, passed-all, place-in}
 
 -- ---- the name that is found
 
@@ -257,7 +258,7 @@ plain-is-receive h a ot od full d p =
         let f = query-name h a c qr in
         split (headerOf (a .datagram) .conflict)
         (λ e.
-        let n = has-interval h (a .interface) in
+        let n = has-interval (settingOf h (a .interface)) in
         asks-one _ _ _ _ _ _ _ d (receive h a) (p .notification x qr e (names h a) (question a) (nameNumber a) f (n .0) (n .1))
         (defends h a ot od full y qr e (names h a) (question a) (nameNumber a) f (n .0) (n .1)))
         (λ e.
@@ -280,7 +281,7 @@ receive-full h a ot od full = full-if-accepted h (a .out) (receiveCases h a) (re
         let f = query-name h a c qr in
         split (headerOf (a .datagram) .conflict)
         (λ e.
-        let n = has-interval h (a .interface) in
+        let n = has-interval (settingOf h (a .interface)) in
         moves-full h (a .interface) (nameNumber a) _ (a .time) (receive h a) full
         (defends h a ot od full y qr e (names h a) (question a) (nameNumber a) f (n .0) (n .1) .moves))
         (λ e.

@@ -7,6 +7,7 @@ use native.Mathlib.Omega.{arith}
 use lib.ListN.{length, getD}
 use borrow.Author.Tests.{leb-false}
 use Rattle.octets.specs.Octets.{Octets}
+use Rattle.octets.specs.PlainAddresses.{nothing}
 use Rattle.octets.specs.declared.Setting.{Setting}
 use Rattle.refusal.specs.Checks.{Verdict, refused as refusedBy, passed, verdict, Clear}
 use Rattle.name_table.specs.Check.{Held, good, noName, checkTable, namesIn}
@@ -14,7 +15,7 @@ use Rattle.name_table.specs.Entries.{Entry, unique as uniqueKind, shared as sha
 use Rattle.name_table.proofs.Held.{few-held}
 use Rattle.name_table.proofs.Meaning.{good-iff}
 use Rattle.names.specs.Names.{encode}
-use Rattle.host.specs.State.{stateOf}
+use Rattle.host.specs.State.{settingOf, stateOf}
 use Rattle.host.specs.Outcomes.{ready, shared as sharedName, Done}
 use Rattle.host.specs.Laws.{Accepted}
 use Rattle.host.specs.SetUp.{setUpChecks, setUpBy, setUp}
@@ -24,13 +25,14 @@ use Rattle.host.specs.declared.NameState.{NameState}
 use Rattle.host.specs.declared.NameState.the-variants.{Off, Verifying, Unique, Defending, Stopped, Shared}
 use Rattle.host.specs.declared.Host.{Host}
 use Rattle.host.proofs.Called.{called-is}
+use Rattle.host.proofs.Conditions.{has-interval}
 use Rattle.host.proofs.Laws.{set-up-refused, start-refused}
 use Rattle.witness.specs.Refusals.{startCases}
-use Rattle.witness.specs.States.{Interval, Place, nothing, dueAt, Becomes, Asks, checkOf, hostOf, UniqueStarts, SharedStarts}
+use Rattle.witness.specs.States.{Interval, Place, dueAt, Becomes, Asks, checkOf, hostOf, UniqueStarts, SharedStarts}
 use Rattle.witness.specs.Whole.{Full, PlainSetUp, PlainStart}
 use Rattle.witness.proofs.Refusals.{set-up-refused-exactly, start-refused-exactly}
 use Rattle.witness.proofs.States.{unique-starts, shared-starts}
-use Rattle.witness.proofs.Whole.{host-full, moves-full, becomes-one, asks-one, not-refused, same-if-accepted, full-if-accepted, refused-exactly, passed-all, has-interval, place-in}
+use Rattle.witness.proofs.Whole.{host-full, moves-full, becomes-one, asks-one, not-refused, same-if-accepted, full-if-accepted, refused-exactly, passed-all, place-in}
 
 -- ---- set-up
 
@@ -159,7 +161,7 @@ module _ (h : Host) (table : List ℕ) (i k time id : ℕ) (out : List ℕ) wher
         same : Accepted d → Accepted done → d ≡ done
         same x a =
             let g = good-names a in
-            let n = has-interval h i in
+            let n = has-interval (settingOf h i) in
             ⊎-elim
             (λ e. asks-one _ _ _ _ _ _ _ d done (p .unique-name x names g e (n .0) (n .1)) (sends a names g e (n .0) (n .1)))
             (λ e. becomes-one _ _ _ _ _ _ _ d done (p .shared-name x names g e) (shares a names g e))
@@ -171,6 +173,6 @@ module _ (h : Host) (table : List ℕ) (i k time id : ℕ) (out : List ℕ) wher
         full-if-accepted h out (startCases h table i k time out) done f (start-is-plain .refusals)
         (λ a.
         let g = good-names a in
-        let n = has-interval h i in
+        let n = has-interval (settingOf h i) in
         ⊎-elim (λ e. moves-full h i k _ time done f (sends a names g e (n .0) (n .1) .moves)) (λ e. moves-full h i k _ time done f (shares a names g e .moves))
         (kind-of table names k o g (begun a names g .1)))

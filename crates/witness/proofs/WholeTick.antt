@@ -12,7 +12,7 @@ use Rattle.octets.specs.Octets.{Octets}
 use Rattle.octets.proofs.Tests.{split, never}
 use Rattle.name_table.specs.Check.{Held, good, noName, checkTable, namesIn}
 use Rattle.name_table.proofs.Held.{few-held}
-use Rattle.host.specs.State.{stateOf}
+use Rattle.host.specs.State.{settingOf, stateOf}
 use Rattle.host.specs.Outcomes.{quiet, Done}
 use Rattle.host.specs.Laws.{Accepted}
 use Rattle.host.specs.Tick.{isDue, tick}
@@ -20,7 +20,7 @@ use Rattle.host.specs.ExactlyWhen.{CalledWell}
 use Rattle.host.specs.declared.NameState.{NameState}
 use Rattle.host.specs.declared.NameState.the-variants.{Off, Verifying, Unique, Defending, Stopped, Shared}
 use Rattle.host.specs.declared.Host.{Host}
-use Rattle.host.proofs.Conditions.{due-is}
+use Rattle.host.proofs.Conditions.{has-interval, due-is}
 use Rattle.host.proofs.Laws.{tick-refused}
 use Rattle.host.proofs.Ticked.{tick-rests}
 use Rattle.witness.specs.Refusals.{tickCases}
@@ -29,7 +29,7 @@ use Rattle.witness.specs.Whole.{Full, PlainTick}
 use Rattle.witness.proofs.Refusals.{tick-refused-exactly}
 use Rattle.witness.proofs.Comes.{leaves}
 use Rattle.witness.proofs.Times.{tick-called, tick-good, due-by, ticks}
-use Rattle.witness.proofs.Whole.{moves-full, same-full, becomes-one, asks-one, leaves-one, same-if-accepted, full-if-accepted, refused-exactly, has-interval, place-in}
+use Rattle.witness.proofs.Whole.{moves-full, same-full, becomes-one, asks-one, leaves-one, same-if-accepted, full-if-accepted, refused-exactly, place-in}
 
 -- ---- the lowest that is due
 
@@ -129,7 +129,7 @@ module _ (h : Host) (table : List ℕ) (i time id : ℕ) (out : List ℕ) where
             go : Lowest h i (length names) time → d ≡ done
             go (none n) = leaves-one _ _ _ _ d done (p .none-due x names g n) (rests a names g n)
             go (one k l w first) =
-                let n = has-interval h i in
+                let n = has-interval (settingOf h i) in
                 ticks-one h i k (length names) (n .0) time (getD names k noName .octets) out (stateOf h i k) d done w
                 (p .serves x names g k l first (n .0) (n .1)) (serves a names g k l first (n .0) (n .1))
 
@@ -143,6 +143,6 @@ module _ (h : Host) (table : List ℕ) (i time id : ℕ) (out : List ℕ) where
             go : Lowest h i (length names) time → Full (done .host)
             go (none n) = same-full h (done .host) f (rests a names (good-names a) n .states)
             go (one k l w first) =
-                let n = has-interval h i in
+                let n = has-interval (settingOf h i) in
                 ticks-full h i k (length names) (n .0) time (getD names k noName .octets) out (stateOf h i k) done w
                 (serves a names (good-names a) k l first (n .0) (n .1)) f

@@ -8,8 +8,9 @@ use mathlib.Core.Bool.{true, cond}
 use lib.ListN.{length, getD}
 use Rattle.octets.specs.Octets.{partOf}
 use Rattle.octets.specs.Addresses.{addressOf, unused}
+use Rattle.octets.specs.PlainAddresses.{IsGroup}
 use Rattle.octets.specs.declared.Setting.{Setting}
-use Rattle.refusal.specs.Numbers.{Report, number, number-at}
+use Rattle.refusal.specs.Cases.{Case, case, case-at}
 use Rattle.name_table.specs.declared.Found.the-variants.{At, Nothing}
 use Rattle.name_table.specs.Check.{Held, good, bad, checkTable, findName}
 use Rattle.message.specs.declared.Question.{Question}
@@ -21,21 +22,7 @@ use Rattle.host.specs.Receive.{Arrival}
 use Rattle.host.specs.declared.NameState.{NameState}
 use Rattle.host.specs.declared.NameState.the-variants.{Off, Verifying, Unique, Defending, Stopped, Shared}
 use Rattle.host.specs.declared.Host.{Host}
-use Rattle.witness.specs.States.{IsGroup, Ours, Matches}
-
--- ---- Numbers and conditions.
-
-pub data Case : Type 1 where
-  -- a number and its condition
-  case : ℕ → Type 0 → Case
-  -- a number with an offset, and the condition for each offset
-  case-at : ℕ → (ℕ → Type 0) → Case
-
--- The report is that of the first case whose condition holds: its own does, and those before it do not.
-abbrev pub First : Report → List Case → Type 0
-First t [] = ⊥
-First t (case n c ∷ rest) = ((t ≡ number n) × c) ⊎ ((c → ⊥) × First t rest)
-First t (case-at n c ∷ rest) = ((at : ℕ) × (t ≡ number-at n at) × c at) ⊎ (((at : ℕ) → c at → ⊥) × First t rest)
+use Rattle.witness.specs.States.{Ours, Matches}
 
 -- ---- Set-up: 2, 4, 20.
 

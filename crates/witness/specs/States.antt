@@ -1,12 +1,13 @@
 -- What a call leaves and sends, whole, and the table of states by events, in plain terms and the papers' numbers. It is shown in
 -- proofs/States.antt (starts, queries and responses) and proofs/Times.antt (ticks and set-up).
-use Prim.Native.Nat.{ℕ, _+_, _-_, _/_, _%_, _<_, _≤_}
+use Prim.Native.Nat.{ℕ, _+_, _-_, _<_, _≤_}
 use mathlib.Core.Path.{_≡_}
 use mathlib.Core.Logic.{_≢_}
 use mathlib.Core.List.{List, [], _∷_, _++_}
 use mathlib.Core.Bool.{Bool, true, false}
 use lib.ListN.{length, take, drop}
 use Rattle.octets.specs.Addresses.{Below}
+use Rattle.octets.specs.PlainAddresses.{GroupEndpoint, IsOf, nothing}
 use Rattle.octets.specs.declared.Endpoint.{Endpoint}
 use Rattle.octets.specs.declared.Address.{Address}
 use Rattle.octets.specs.declared.Setting.{Setting}
@@ -15,7 +16,8 @@ use Rattle.name_table.specs.Check.{Held, good, checkTable}
 use Rattle.message.specs.declared.Question.{Question}
 use Rattle.message.specs.declared.HeaderRead.the-variants.{Good}
 use Rattle.message.specs.Header.{headerOf, headerAt}
-use Rattle.host.specs.State.{interfaceOf, settingOf, stateOf}
+use Rattle.message.specs.Query.{queryWith}
+use Rattle.host.specs.State.{interfaceOf, settingOf, stateOf, IsInterval}
 use Rattle.host.specs.Outcomes.{Result, refused, quiet, kept, unique, shared, stopped, query, reply, Done}
 use Rattle.host.specs.Laws.{Accepted, OnlyChanges}
 use Rattle.host.specs.Receive.{Arrival}
@@ -30,37 +32,18 @@ use Rattle.host.specs.declared.Host.{Host}
 -- ---- plain words
 
 -- the interval of an interface in milliseconds: 100 if its setting says so, else 1,000
-pub data Interval (h : Host) (i : ℕ) : ℕ → Type 0 where
-  short : settingOf h i .interval ≡ 100 → Interval h i 100
-  long : settingOf h i .interval ≢ 100 → Interval h i 1000
+abbrev pub Interval : Host → ℕ → ℕ → Type 0
+Interval h i n = IsInterval (settingOf h i) n
 
 -- the group of an interface's family, 224.0.0.252 or FF02::1:3, at port 5355
-pub data Group (h : Host) (i : ℕ) : Endpoint → Type 0 where
-  group-4 : settingOf h i .family ≡ 4
-      → Group h i (record { address = record { family = 4; octets = 224 ∷ 0 ∷ 0 ∷ 252 ∷ 0 ∷ 0 ∷ 0 ∷ 0 ∷ 0 ∷ 0 ∷ 0 ∷ 0 ∷ 0 ∷ 0 ∷ 0 ∷ 0 ∷ [] }; port = 5355 })
-  group-6 : settingOf h i .family ≡ 6
-      → Group h i (record { address = record { family = 6; octets = 0xFF ∷ 0x02 ∷ 0 ∷ 0 ∷ 0 ∷ 0 ∷ 0 ∷ 0 ∷ 0 ∷ 0 ∷ 0 ∷ 0 ∷ 0 ∷ 0x01 ∷ 0 ∷ 0x03 ∷ [] }; port = 5355 })
+abbrev pub Group : Host → ℕ → Endpoint → Type 0
+Group h i e = GroupEndpoint (settingOf h i .family) e
 
--- an address is a group's, in the 4 or 16 octets of the family
-pub data IsGroup (x : Address) : Type 0 where
-  is-group-4 : x .family ≡ 4 → take 4 (x .octets) ≡ 224 ∷ 0 ∷ 0 ∷ 252 ∷ [] → IsGroup x
-  is-group-6 : x .family ≡ 6
-      → take 16 (x .octets) ≡ 0xFF ∷ 0x02 ∷ 0 ∷ 0 ∷ 0 ∷ 0 ∷ 0 ∷ 0 ∷ 0 ∷ 0 ∷ 0 ∷ 0 ∷ 0 ∷ 0x01 ∷ 0 ∷ 0x03 ∷ [] → IsGroup x
-
--- an address is that of a used interface, in the 4 or 16 octets of the family
-pub data IsOf (s : Setting) (x : Address) : Type 0 where
-  is-4 : s .family ≡ 4 → x .family ≡ 4 → take 4 (x .octets) ≡ take 4 (s .address) → IsOf s x
-  is-6 : s .family ≡ 6 → x .family ≡ 6 → take 16 (x .octets) ≡ take 16 (s .address) → IsOf s x
-
--- it is one of the host's own
+-- an address is one of the host's own
 pub record Ours (h : Host) (x : Address) : Type 0 where
   pub interface : ℕ
   pub below : interface < 4
   pub same : IsOf (settingOf h interface) x
-
--- no destination: all zero
-abbrev pub nothing : Endpoint
-nothing = record { address = record { family = 0; octets = 0 ∷ 0 ∷ 0 ∷ 0 ∷ 0 ∷ 0 ∷ 0 ∷ 0 ∷ 0 ∷ 0 ∷ 0 ∷ 0 ∷ 0 ∷ 0 ∷ 0 ∷ 0 ∷ [] }; port = 0 }
 
 -- the host has a place for the k-th name of interface i
 pub record Place (h : Host) (i k : ℕ) : Type 0 where
@@ -136,10 +119,7 @@ pub record Asks (h : Host) (i k : ℕ) (s : NameState) (time : ℕ) (sent out : 
   pub octets : d .octets ≡ sent ++ drop (length sent) out
   pub to : Group h i (d .to)
 
--- a query: an ID, flags 0, one question and nothing else; that of a check asks for a name, type 255, class 1
-abbrev pub queryWith : ℕ → List ℕ → List ℕ
-queryWith id question = id / 256 ∷ id % 256 ∷ 0 ∷ 0 ∷ 0 ∷ 1 ∷ 0 ∷ 0 ∷ 0 ∷ 0 ∷ 0 ∷ 0 ∷ question
-
+-- the query of a check asks for a name, type 255, class 1
 abbrev pub checkOf : ℕ → List ℕ → List ℕ
 checkOf id name = queryWith id (name ++ (0 ∷ 255 ∷ 0 ∷ 1 ∷ []))
 

@@ -7,14 +7,17 @@ use mathlib.Core.Logic.{_↔_}
 use mathlib.Core.List.{List, [], _∷_}
 use mathlib.Core.Bool.{true, false}
 use lib.ListN.{length, getD, take, drop}
+use Rattle.octets.specs.PlainAddresses.{nothing}
 use Rattle.octets.specs.declared.Setting.{Setting}
 use Rattle.refusal.specs.Numbers.{Report}
+use Rattle.refusal.specs.Cases.{Case, First}
 use Rattle.name_table.specs.Check.{Held, good, noName, checkTable}
 use Rattle.name_table.specs.Entries.{GoodTable}
 use Rattle.message.specs.declared.Question.{Question}
 use Rattle.message.specs.declared.QuestionRead.the-variants.{Good}
 use Rattle.message.specs.Header.{headerOf}
 use Rattle.message.specs.Question.{questionAt}
+use Rattle.message.specs.Query.{queryWith}
 use Rattle.host.specs.State.{interfaceOf, stateOf}
 use Rattle.host.specs.Outcomes.{refused, ready, quiet, shared, Done}
 use Rattle.host.specs.Laws.{Accepted}
@@ -22,9 +25,9 @@ use Rattle.host.specs.Receive.{Arrival}
 use Rattle.host.specs.declared.NameState.{NameState}
 use Rattle.host.specs.declared.NameState.the-variants.{Off, Verifying, Unique, Defending, Stopped, Shared}
 use Rattle.host.specs.declared.Host.{Host}
-use Rattle.witness.specs.Refusals.{Case, First, IsFor, setUpCases, startCases, tickCases, receiveCases}
+use Rattle.witness.specs.Refusals.{IsFor, setUpCases, startCases, tickCases, receiveCases}
 use Rattle.witness.specs.Replies.{ReplyFrom}
-use Rattle.witness.specs.States.{Interval, nothing, dueAt, Leaves, Becomes, Asks, queryWith, checkOf, Taken, Challenged, IsDue, First as NoneBefore, Ticks, hostOf, zeros}
+use Rattle.witness.specs.States.{Interval, dueAt, Leaves, Becomes, Asks, checkOf, Taken, Challenged, IsDue, First as NoneBefore, Ticks, hostOf, zeros}
 
 -- A host as it is in the code: four interfaces with eight names each.
 pub record Full (h : Host) : Type 0 where
