@@ -1,13 +1,16 @@
 -- Single tests of the calls hold exactly where their plain conditions do.
-use Prim.Native.Nat.{ℕ}
+use Prim.Native.Nat.{ℕ, _≤_}
 use mathlib.Core.Path.{_≡_, refl, ap, _∙_}
 use mathlib.Core.Logic.{_↔_, _≢_, _⊎_, inl, inr, ⊎-elim}
 use mathlib.Core.Bool.{Bool, true, false, not}
-use borrow.Author.Tests.{leb-true, le-leb}
+use native.Mathlib.Omega.{arith}
+use lib.Dec.{eqb}
+use borrow.Author.Tests.{leb-true, le-leb, eqb-true, eqb-false, eq-eqb}
 use Rattle.octets.specs.Tests.{_and_, _or_}
 use Rattle.octets.specs.Addresses.{belowAddress}
 use Rattle.octets.specs.declared.Address.{Address}
-use Rattle.octets.proofs.Tests.{both, never, same-number, either-number, not-not}
+use Rattle.octets.specs.declared.Setting.{Setting}
+use Rattle.octets.proofs.Tests.{split, both, never, same-number, either-number, not-not}
 use Rattle.name_table.specs.declared.Found.{Found}
 use Rattle.name_table.specs.declared.Found.the-variants.{At, Nothing}
 use Rattle.name_table.specs.Check.{Checked, good, bad, isBad, namesIn, isFound, numberOr}
@@ -16,7 +19,7 @@ use Rattle.message.specs.declared.QuestionRead.{QuestionRead}
 use Rattle.message.specs.declared.QuestionRead.the-variants.{Good, Bad}
 use Rattle.message.specs.Question.{questionOr, isBadQuestion}
 use Rattle.host.specs.Bounds.{anyClass}
-use Rattle.host.specs.State.{Phase, off, verifying, unique, stopped, is}
+use Rattle.host.specs.State.{Phase, off, verifying, unique, stopped, is, intervalOf, IsInterval, short-interval, long-interval}
 use Rattle.host.specs.Start.{isIdle}
 use Rattle.host.specs.Tick.{isDue}
 use Rattle.host.specs.Receive.{badClass, awaits}
@@ -119,6 +122,19 @@ taken-is Off id qtype class t from ours w = absurd w
 taken-is Unique id qtype class t from ours w = absurd w
 taken-is Stopped id qtype class t from ours w = absurd w
 taken-is Shared id qtype class t from ours w = absurd w
+
+-- ---- the interval of an interface
+
+pub interval-is : (s : Setting) (n : ℕ) → IsInterval s n → intervalOf s ≡ n
+interval-is s n (short-interval e) = rw (eq-eqb _ _ e)
+interval-is s n (long-interval d) = split (eqb (s .interval) 100) (λ t. absurd (d (eqb-true _ _ t))) (λ t. rw t)
+
+pub interval-most : (s : Setting) → intervalOf s ≤ 1000
+interval-most s = split (eqb (s .interval) 100) (λ t. rw t (omega arith)) (λ t. rw t (omega arith))
+
+pub has-interval : (s : Setting) → (n : ℕ) × IsInterval s n
+has-interval s =
+    split (eqb (s .interval) 100) (λ t. (100, short-interval (eqb-true _ _ t))) (λ t. (1000, long-interval (eqb-false _ _ t)))
 
 -- ---- a timer that has run out
 

@@ -1,6 +1,8 @@
 -- The state of a host, and how a call changes it: at most one name of one interface, and the clock.
 use Prim.Native.Nat.{ℕ, _+_}
-use mathlib.Core.List.{List, [], map}
+use mathlib.Core.Path.{_≡_}
+use mathlib.Core.Logic.{_≢_}
+use mathlib.Core.List.{List, [], _∷_, map}
 use mathlib.Core.Bool.{Bool, cond}
 use lib.ListN.{getD, set}
 use lib.Dec.{eqb}
@@ -30,6 +32,11 @@ settingOf h i = interfaceOf h i .setting
 
 abbrev pub settingsOf : List Interface → List Setting
 settingsOf is = map (λ i. i .setting) is
+
+-- of four interfaces, as the code has them
+abbrev pub fourSettings : List Interface → List Setting
+fourSettings is =
+    getD is 0 absent .setting ∷ getD is 1 absent .setting ∷ getD is 2 absent .setting ∷ getD is 3 absent .setting ∷ []
 
 -- an address is one of the host's own
 abbrev pub isOwn : Host → Address → Bool
@@ -80,6 +87,11 @@ withState h i k state time =
 -- an interval other than 100 counts as 1,000
 abbrev pub intervalOf : Setting → ℕ
 intervalOf s = cond (eqb (s .interval) short) short long
+
+-- plainly: the interval of an interface in milliseconds, 100 if its setting says so, else 1,000
+pub data IsInterval (s : Setting) : ℕ → Type 0 where
+  short-interval : s .interval ≡ 100 → IsInterval s 100
+  long-interval : s .interval ≢ 100 → IsInterval s 1000
 
 -- a timer that is started now
 abbrev pub timerFrom : Setting → ℕ → Timer

@@ -1,7 +1,8 @@
 // The host: what it may call itself on each interface, and what a call gives. What the calls do is defined in specs/; their code
 // stands in the crate responder.
 ghost use mathlib.Core.Path.{_≡_};
-ghost use Rattle.host.specs.State.{intervalOf};
+ghost use Rattle.host.specs.State.{intervalOf, fourSettings};
+ghost use Rattle.host.specs.Outcomes.{nowhere as zeroEndpoint};
 ghost use Rattle.host.specs.SetUp.{freshInterface, freshHost, zeroHost};
 use octets::Address;
 use octets::Endpoint;
@@ -92,6 +93,20 @@ pub struct Step {
     pub to: Endpoint,
 }
 
+// Where nothing is sent.
+pub fn nowhere() -> Endpoint
+    ensures { λ r. ⌜ r ≡ zeroEndpoint ⌝ }
+{
+    let address = Address {
+        family: 0,
+        octets: [0; Address::IPV6_OCTETS],
+    };
+    Endpoint {
+        address: address,
+        port: 0,
+    }
+}
+
 impl Interface {
     // With its settings as given, and all names Off.
     pub fn fresh(setting: Setting) -> Self
@@ -104,6 +119,21 @@ impl Interface {
             setting: setting,
             names: [name; Name::COUNT],
         }
+    }
+
+    // The settings of all interfaces.
+    pub fn settings(interfaces: [Interface; Setting::COUNT]) -> [Setting; Setting::COUNT]
+        ensures { λ r. ⌜ r ≡ fourSettings interfaces ⌝ }
+    {
+        let a = interfaces[0];
+        let b = interfaces[1];
+        let c = interfaces[2];
+        let d = interfaces[3];
+        let p = a.setting;
+        let q = b.setting;
+        let r = c.setting;
+        let s = d.setting;
+        [p, q, r, s]
     }
 }
 
