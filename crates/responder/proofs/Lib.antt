@@ -2,7 +2,6 @@ pub mod SettingsLaws
 pub mod SetUpLaws
 pub mod NameLaws
 pub mod OpeningLaws
-pub mod DatagramLaws
 pub mod ContestLaws
 pub mod TurnLaws
 pub mod StartLaws

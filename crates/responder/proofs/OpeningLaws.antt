@@ -5,13 +5,12 @@ use mathlib.Core.List.{List}
 use mathlib.Core.Bool.{true, false, not}
 use native.Mathlib.Omega.{arith}
 use lib.ListN.{length}
-use lib.Dec.{ltb, leb}
-use borrow.Author.Tests.{lt-ltb, leb-false}
+use lib.Dec.{ltb}
 use Rattle.octets.specs.Bounds.{interfaces}
 use Rattle.octets.proofs.Tests.{split}
-use Rattle.refusal.specs.Numbers.{Report, reportOf}
-use Rattle.refusal.specs.Checks.{Checks, fail, pass, Verdict, refused, passed, verdict, Gives, next, stop}
-use Rattle.refusal.proofs.Checks.{clear, gives, _then_, stays}
+use Rattle.refusal.specs.Numbers.{reportOf}
+use Rattle.refusal.specs.Checks.{Checks, pass, Verdict, refused, passed, verdict, Gives, next, stop}
+use Rattle.refusal.proofs.Checks.{clear, gives, stays}
 use Rattle.refusal.specs.declared.Refusal.{Refusal}
 use Rattle.refusal.specs.declared.Refusal.the-variants.{Table as BadTable}
 use Rattle.name_table.specs.Bounds.{mostNames}
@@ -25,8 +24,10 @@ use Rattle.host.specs.Early.{early, firstChecks}
 use Rattle.host.specs.ExactlyWhen.{CalledWell}
 use Rattle.host.specs.declared.Host.{Host}
 use Rattle.host.proofs.Called.{called-is}
+use Rattle.checks.specs.Messages.{slotOf}
+use Rattle.checks.proofs.MessageLaws.{slot-is, slot-unused}
 use Rattle.responder.specs.declared.opening.Opening.{Opening}
-use Rattle.responder.specs.Opening.{slotOf, refuses, opens, openedIf, opening, openedBy}
+use Rattle.responder.specs.Opening.{refuses, opens, openedIf, opening, openedBy}
 use Rattle.responder.proofs.NameLaws.{counted}
 
 -- ---- the reading of a table
@@ -74,12 +75,10 @@ many h table i time out t at p n e = ap (λ (c : Checked). length (namesIn c)) (
 
 module _ (h : Host) (table : List ℕ) (i time : ℕ) (out : List ℕ) (at : ℕ) (s : at ≡ slotOf i) where
   same-place : i < interfaces → at ≡ i
-  same-place l = s ∙ rw (lt-ltb _ _ l)
+  same-place l = s ∙ slot-is i l
 
   same-checks : firstChecks (length out) table i (settingOf h at .family) (h .clock) time pass ≡ early h table i time out pass
-  same-checks =
-      split (leb interfaces i) (λ p. rw p) λ p.
-      ap (λ (x : ℕ). firstChecks (length out) table i (settingOf h x .family) (h .clock) time pass) (same-place (leb-false _ _ p))
+  same-checks = rw (s, slot-unused (λ x. settingOf h x .family) i)
 
   module _ (o : Opening) (e : openedBy o table ≡ opening (length out) table i (settingOf h at .family) (h .clock) time) where
     told : openedBy o table ≡ openedIf (verdict (early h table i time out pass)) table

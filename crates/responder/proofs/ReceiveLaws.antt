@@ -1,8 +1,7 @@
 -- Each way that a receive can end.
 use Prim.Native.Nat.{ℕ, _+_, _<_, _≤_}
 use mathlib.Core.Path.{_≡_, refl, sym, ap, _∙_, subst}
-use mathlib.Core.List.{List}
-use mathlib.Core.Bool.{Bool, true, false, cond}
+use mathlib.Core.Bool.{Bool, true, false}
 use native.Mathlib.Omega.{arith}
 use lib.ListN.{length, getD}
 use lib.Dec.{ltb}
@@ -10,7 +9,7 @@ use Rattle.octets.specs.Octets.{partOf}
 use Rattle.octets.proofs.Tests.{not-below, neither}
 use Rattle.refusal.specs.Numbers.{Report, reportOf}
 use Rattle.refusal.specs.Checks.{Checks, pass, Verdict, refused, passed, verdict, Gives}
-use Rattle.refusal.proofs.Checks.{given, clear, _then_, stays, goes-on}
+use Rattle.refusal.proofs.Checks.{by-verdict, given, clear, goes-on}
 use Rattle.refusal.specs.declared.Refusal.{Refusal}
 use Rattle.name_table.specs.Bounds.{mostNames}
 use Rattle.name_table.specs.Check.{Held, Checked, noName, namesIn, nameIn, checkTable, findName, isFound, numberOr}
@@ -28,18 +27,19 @@ use Rattle.host.specs.Bounds.{replyLimit, shortest, longest}
 use Rattle.host.specs.State.{settingOf, stateOf, verifying, shared, is, withState}
 use Rattle.host.specs.Outcomes.{Done, refusal, kept, nowhere}
 use Rattle.host.specs.Early.{early}
-use Rattle.host.specs.Receive.{Arrival, header, question, found, state, fromUs, loses, awaits, datagramChecks, receiveChecks, Decision, answer, decision, replied, effect, receiveIf, receive}
+use Rattle.host.specs.Receive.{Arrival, header, question, found, state, fromUs, loses, awaits, datagramChecks, Decision, replied, effect, receiveIf, receive}
 use Rattle.host.specs.declared.NameState.{NameState}
 use Rattle.host.specs.declared.Host.{Host}
 use Rattle.host.proofs.Called.{called-gives}
 use Rattle.host.proofs.Arrives.{last, receive-by}
 use Rattle.host.proofs.Laws.{state-stays}
-use Rattle.responder.specs.declared.datagram.Datagram.{Datagram}
 use Rattle.responder.specs.declared.contest.Judged.{Judged}
 use Rattle.responder.specs.declared.contest.Judged.the-variants.{Refused, Answer, Contest}
 use Rattle.responder.specs.declared.contest.Ending.{Ending}
 use Rattle.responder.specs.declared.contest.Ending.the-variants.{Defended, Lost, Kept}
-use Rattle.responder.specs.Datagram.{Reading, refuses, reads, readIf, datagramRead, readBy}
+use Rattle.checks.specs.declared.Datagram.{Datagram}
+use Rattle.checks.specs.Messages.{datagramRead, datagramBy}
+use Rattle.checks.proofs.DatagramLaws.{IsRead, datagram-refused, datagram-read}
 use Rattle.responder.specs.Contest.{whyUnknown, stateJudged, judged, ending, nextName, told}
 use Rattle.responder.proofs.OpeningLaws.{Called}
 use Rattle.responder.proofs.NameLaws.{counted, held-is}
@@ -59,29 +59,24 @@ module _ (h : Host) (a : Arrival) where
   refused-first t e = ap (λ (v : Verdict). receiveIf v h a) (sym e)
 
   module _ (t : Table) (at : ℕ) (p : Called h (a .table) (a .interface) (a .time) (a .out) t at) (d : Datagram)
-      (e : readBy d ≡ datagramRead (settingOf h at .family) (a .from .address .family) (a .to) (a .datagram)) where
+      (e : datagramBy d ≡ datagramRead false (settingOf h at .family) (a .from .address .family) (a .to) (a .datagram)) where
     by : (v : Verdict) → Gives (checksRead (a .interface) (last h a)) v → receiveIf v h a ≡ receive h a
     by v g = sym (receive-by h a v (called-gives h (a .table) (a .interface) (a .time) (a .out) (namesOf (a .table) t) (p .well) g))
 
-    said : readBy d ≡ readIf (verdict (checksRead (a .interface) pass)) (a .datagram)
-    unfolding datagramRead
-    said = e ∙ ap (λ (x : ℕ). readIf (verdict (checksRead x pass)) (a .datagram)) (p .same)
+    said : datagramBy d ≡ datagramRead false (settingOf h (a .interface) .family) (a .from .address .family) (a .to) (a .datagram)
+    said = e ∙ ap (λ (x : ℕ). datagramRead false (settingOf h x .family) (a .from .address .family) (a .to) (a .datagram)) (p .same)
 
     pub refused-read : d .refused ≡ true → refusal h (a .out) (reportOf (d .refusal)) ≡ receive h a
-    refused-read b = by _ (subst (Gives (checksRead (a .interface) (last h a))) (stays (checksRead (a .interface) pass) (last h a) _ (go _ (rw b at said))) (given _))
-      where
-        go : (v : Verdict) → refuses (reportOf (d .refusal)) ≡ readIf v (a .datagram) → v ≡ refused (reportOf (d .refusal))
-        go (refused r) q = cc
-        go passed q = let z : _≡_ {A = ℕ} 0 1 = cc in absurd (omega arith)
+    unfolding verdict
+    refused-read b = by _ (by-verdict (datagram-refused false _ _ _ _ d said b (last h a)))
 
     module _ (b : d .refused ≡ false) where
+      is-read : IsRead false (settingOf h (a .interface) .family) (a .from .address .family) (a .to) (a .datagram) d said
+      is-read = datagram-read false _ _ _ _ d said b
+
       has-read : (verdict (checksRead (a .interface) pass) ≡ passed) × (d .header ≡ header a) × (d .question ≡ question a)
-      has-read = go _ refl (rw b at said)
-        where
-          go : (v : Verdict) → verdict (checksRead (a .interface) pass) ≡ v → reads (d .header) (d .question) ≡ readIf v (a .datagram)
-              → (verdict (checksRead (a .interface) pass) ≡ passed) × (d .header ≡ header a) × (d .question ≡ question a)
-          go (refused r) w q = let z : _≡_ {A = ℕ} 0 1 = cc in absurd (omega arith)
-          go passed w q = (w, cc, cc)
+      unfolding verdict
+      has-read = (is-read .passes, sym (is-read .header-is), sym (is-read .question-is))
 
       -- the octets of the question's name stand in the datagram, which is short
       pub name-short : d .question .name ≤ longest

@@ -5,14 +5,13 @@ use mathlib.Core.List.{List}
 use mathlib.Core.Bool.{true, false, cond}
 use native.Mathlib.Omega.{arith}
 use lib.ListN.{getD}
-use lib.Dec.{ltb, eqb}
-use Rattle.octets.specs.declared.Setting.{Setting}
+use lib.Dec.{ltb}
 use Rattle.octets.proofs.Tests.{split}
 use Rattle.name_table.specs.Check.{Checked, good, noName, namesIn, checkTable}
 use Rattle.name_table.specs.Shown.{namesOf}
 use Rattle.name_table.specs.declared.Table.{Table}
-use Rattle.host.specs.Bounds.{sendsInAll, short, long}
-use Rattle.host.specs.State.{offName, settingOf, withState, intervalOf}
+use Rattle.host.specs.Bounds.{sendsInAll}
+use Rattle.host.specs.State.{offName, settingOf, withState}
 use Rattle.host.specs.Outcomes.{Result, silent, unique}
 use Rattle.host.specs.Asking.{checkQuery, asking}
 use Rattle.host.specs.Tick.{isDue, due, none, dueFrom, serve}
@@ -45,9 +44,6 @@ due-all n names time =
     rw z
 
 -- ---- what a call gives
-
-pub interval-most : (s : Setting) → intervalOf s ≤ long
-interval-most s = split (eqb (s .interval) short) (λ p. rw p (omega arith)) (λ p. rw p (omega arith))
 
 -- what a due name is served with
 pub serves : (state : NameState) (h : Host) (table : List ℕ) (i k time : ℕ) (out : List ℕ)

@@ -1,4 +1,3 @@
 pub mod Contest
-pub mod Datagram
 pub mod Opening
 pub mod Turn

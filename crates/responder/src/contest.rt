@@ -144,15 +144,7 @@ fn judge_state(state: NameState, header: Header, question: Question) -> Judged
 fn is_own(interfaces: [Interface; Setting::COUNT], source: Address) -> bool
     ensures { λ r. ⌜ r ≡ isOurs (settingsOf interfaces) source ⌝ }
 {
-    let a = interfaces[0];
-    let b = interfaces[1];
-    let c = interfaces[2];
-    let d = interfaces[3];
-    let p = a.setting;
-    let q = b.setting;
-    let r = c.setting;
-    let s = d.setting;
-    octets::is_ours([p, q, r, s], source)
+    octets::is_ours(Interface::settings(interfaces), source)
 }
 
 // The same, where a contest that comes from ourselves is refused. The source is looked at only then.
@@ -275,7 +267,7 @@ pub(crate) fn tell(
         let to = octets::group_endpoint(family);
         return Told { outcome, to };
     }
-    let to = crate::query::nowhere();
+    let to = host::nowhere();
     if let Ending::Lost = ended {
         let outcome = Outcome::Stopped { name };
         return Told { outcome, to };

@@ -9,7 +9,6 @@ ghost use Rattle.host.specs.Receive.{receive as receiveOf};
 ghost use Rattle.host.specs.Tick.{tick as tickOf};
 
 mod contest;
-mod datagram;
 mod opening;
 mod query;
 mod reply;
@@ -32,7 +31,7 @@ fn refuse(host: Host, refusal: Refusal) -> Step
     ensures { λ r. ⌜ r ≡ record { host = host; outcome = Outcome.Refused refusal; to = nowhere } ⌝ }
 {
     let outcome = Outcome::Refused(refusal);
-    let to = query::nowhere();
+    let to = host::nowhere();
     Step { host, outcome, to }
 }
 
@@ -52,7 +51,7 @@ pub fn set_up(table: &[u8], settings: [Setting; Setting::COUNT], time: u64, id: 
         return refuse(Host::zero(), Refusal::Settings);
     }
     let host = Host::fresh(settings, time);
-    let to = query::nowhere();
+    let to = host::nowhere();
     let outcome = Outcome::Ready;
     Step { host, outcome, to }
 }
@@ -69,7 +68,7 @@ pub fn start(
 ) -> Step
     ensures { λ r. ⌜ doneBy r (now (out .exit)) ≡ startOf host (now (table .entry)) interface name time id (now (out .entry)) ⌝ }
 {
-    let at = opening::slot(interface);
+    let at = checks::slot(interface);
     let mut i = host.interfaces[at];
     let s = i.setting;
     let o = opening::open(out.len(), table, interface, s.family, host.clock, time);
@@ -98,7 +97,7 @@ pub fn start(
         return Step { host, outcome, to };
     }
     let outcome = Outcome::Shared { name };
-    let to = query::nowhere();
+    let to = host::nowhere();
     Step { host, outcome, to }
 }
 
@@ -116,7 +115,7 @@ pub fn receive(
 ) -> Step
     ensures { λ r. ⌜ doneBy r (now (out .exit)) ≡ receiveOf host (record { table = now (table .entry); interface = interface; from = from; to = to; datagram = now (datagram .entry); time = time; id = id; out = now (out .entry) }) ⌝ }
 {
-    let at = opening::slot(interface);
+    let at = checks::slot(interface);
     let here = host.interfaces[at];
     let s = here.setting;
     let o = opening::open(out.len(), table, interface, s.family, host.clock, time);
@@ -125,7 +124,7 @@ pub fn receive(
         return refuse(host, why);
     }
     let source = from.address;
-    let d = datagram::read(s.family, source.family, to, datagram);
+    let d = checks::read(false, s.family, source.family, to, datagram);
     if d.refused {
         let why = d.refusal;
         return refuse(host, why);
@@ -172,7 +171,7 @@ pub fn tick(
 ) -> Step
     ensures { λ r. ⌜ doneBy r (now (out .exit)) ≡ tickOf host (now (table .entry)) interface time id (now (out .entry)) ⌝ }
 {
-    let at = opening::slot(interface);
+    let at = checks::slot(interface);
     let here = host.interfaces[at];
     let s = here.setting;
     let o = opening::open(out.len(), table, interface, s.family, host.clock, time);
@@ -187,7 +186,7 @@ pub fn tick(
     if n <= k {
         host.clock = time;
         let outcome = Outcome::Quiet;
-        let to = query::nowhere();
+        let to = host::nowhere();
         return Step { host, outcome, to };
     }
     let mut i = host.interfaces[at];
@@ -205,6 +204,6 @@ pub fn tick(
         return Step { host, outcome, to };
     }
     let outcome = Outcome::Unique { name: k };
-    let to = query::nowhere();
+    let to = host::nowhere();
     Step { host, outcome, to }
 }

@@ -1,13 +1,9 @@
 // How a call after set-up opens: the checks 1 to 4, on numbers alone, and the reading of the table.
 ghost use mathlib.Core.Path.{_≡_};
 ghost use mathlib.Core.Bool.{true};
-ghost use Prim.Native.Nat.{_<_};
-ghost use Rattle.octets.specs.Bounds.{interfaces};
-ghost use Rattle.host.specs.Early.{noInterface, badClock};
-ghost use Rattle.responder.specs.Opening.{slotOf, openedBy, opening};
+ghost use Rattle.responder.specs.Opening.{openedBy, opening};
 use host::Host;
 use name_table::Table;
-use octets::Setting;
 use refusal::Refusal;
 
 // What the opening comes to: a refusal, or none and the names of the table.
@@ -15,40 +11,6 @@ pub(crate) struct Opening {
     pub(crate) refused: bool,
     pub(crate) refusal: Refusal,
     pub(crate) table: Table,
-}
-
-// An index that is always one of an interface: a number above the last counts as 0.
-pub(crate) fn slot(interface: usize) -> usize
-    ensures { λ r. ⌜ r ≡ slotOf interface ⌝ }
-    ensures { λ r. ⌜ r < interfaces ⌝ }
-{
-    if interface < Setting::COUNT {
-        interface
-    } else {
-        0
-    }
-}
-
-fn is_unused(interface: usize, family: u8) -> bool
-    ensures { λ r. ⌜ r ≡ noInterface interface family ⌝ }
-{
-    if Setting::COUNT <= interface {
-        return true;
-    }
-    if octets::is_family(family) {
-        false
-    } else {
-        true
-    }
-}
-
-fn bad_clock(clock: u64, time: u64) -> bool
-    ensures { λ r. ⌜ r ≡ badClock clock time ⌝ }
-{
-    if Host::LATEST < time {
-        return true;
-    }
-    if time < clock { true } else { false }
 }
 
 fn refuse(refusal: Refusal) -> Opening
@@ -87,10 +49,10 @@ pub(crate) fn open(
         let at = read.at;
         return refuse(Refusal::Table { at: at });
     }
-    if is_unused(interface, family) {
+    if checks::is_unused(interface, family) {
         return refuse(Refusal::Interface);
     }
-    if bad_clock(clock, time) {
+    if checks::bad_clock(clock, time) {
         return refuse(Refusal::Clock);
     }
     let names = read.table;

@@ -1,16 +1,13 @@
-// A query for a name of the table, and where it goes.
+// A query for a name of the table.
 ghost use mathlib.Core.Path.{_≡_};
 ghost use lib.ListN.{length, getD};
 ghost use Rattle.octets.specs.Octets.{put};
 ghost use Rattle.name_table.specs.Check.{noName};
 ghost use Rattle.name_table.specs.Shown.{namesOf};
-ghost use Rattle.host.specs.Outcomes.{nowhere as zeroEndpoint};
 ghost use Rattle.host.specs.Asking.{checkQuery};
 use message::ResourceRecord;
 use name_table::NameFound;
 use name_table::Table;
-use octets::Address;
-use octets::Endpoint;
 
 // The octets of the name with a number; none if the table has no such name.
 pub(crate) fn octets_of<'a>(names: Table, table: &'a [u8], k: usize) -> &'a [u8]
@@ -29,18 +26,4 @@ pub(crate) fn write(id: u16, name: &[u8], out: &mut [u8]) -> usize
     ensures { λ r. ⌜ now (out .exit) ≡ put (now (out .entry)) 0 (checkQuery id (now (name .entry))) ⌝ }
 {
     message::write_name_query(out, id, 0, name, ResourceRecord::ANY, ResourceRecord::IN)
-}
-
-// Where nothing goes.
-pub(crate) fn nowhere() -> Endpoint
-    ensures { λ r. ⌜ r ≡ zeroEndpoint ⌝ }
-{
-    let address = Address {
-        family: 0,
-        octets: [0; Address::IPV6_OCTETS],
-    };
-    Endpoint {
-        address: address,
-        port: 0,
-    }
 }

@@ -1,6 +1,6 @@
 -- `responder::receive` meets its contract.
 use Prim.Native.Nat.{ℕ, _+_, _<_, _≤_}
-use mathlib.Core.Path.{_≡_, refl, sym, ap, _∙_}
+use mathlib.Core.Path.{_≡_, refl, ap, _∙_}
 use mathlib.Core.List.{List, [], _∷_}
 use types.Run.{miss}
 use native.Mathlib.Omega.{arith}
@@ -15,7 +15,7 @@ use Rattle.host.specs.Bounds.{longest}
 use Rattle.host.specs.State.{settingOf}
 use Rattle.host.specs.Receive.{Arrival}
 use Rattle.host.specs.declared.Host.{Host}
-use Rattle.responder.specs.declared.datagram.Datagram.{Datagram}
+use Rattle.checks.specs.declared.Datagram.{Datagram}
 use Rattle.responder.specs.declared.contest.Judged.{Judged}
 use Rattle.responder.specs.declared.contest.Judged.the-variants.{Refused, Answer, Contest}
 use Rattle.responder.specs.Contest.{Telling, told}

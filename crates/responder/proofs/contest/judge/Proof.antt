@@ -1,11 +1,11 @@
 -- `responder::contest::judge` meets its contract.
-use mathlib.Core.Path.{_≡_, refl, sym, ap, _∙_}
+use mathlib.Core.Path.{_≡_, refl, ap, _∙_}
 use mathlib.Core.Bool.{Bool}
 use mathlib.Core.List.{[], _∷_}
 use types.Run.{miss}
 use Rattle.responder.specs.declared.contest.Judged.{Judged}
 use Rattle.responder.specs.declared.contest.Judged.the-variants.{Refused, Answer, Contest}
-use Rattle.responder.specs.Contest.{whyOwn, unlessOwn, judged}
+use Rattle.responder.specs.Contest.{unlessOwn, judged}
 use borrow.Author.Needs.{needs}
 use Rattle.responder.proofs.contest.judge.Statement.{statement}
 use Rattle.responder.proofs.contest.judge.Tie as tie

@@ -1,5 +1,5 @@
 -- `responder::turn::timer` meets its contract.
-use Rattle.responder.proofs.TurnLaws.{interval-most}
+use Rattle.host.proofs.Conditions.{interval-most}
 use native.Mathlib.Omega.{arith}
 use borrow.Author.Needs.{needs}
 use Rattle.responder.proofs.turn.timer.Statement.{statement}

@@ -1,7 +1,7 @@
--- `responder::datagram::bad_counts` meets its contract.
+-- `checks::bad_counts` meets its contract.
 use borrow.Author.Tests.{eq-eqb, ne-eqb}
-use Rattle.responder.proofs.datagram.bad_counts.Statement.{statement}
-use Rattle.responder.proofs.datagram.bad_counts.Tie as tie
+use Rattle.checks.proofs.bad_counts.Statement.{statement}
+use Rattle.checks.proofs.bad_counts.Tie as tie
 
 returns : tie.Need-returns
 returns c = rw (ne-eqb _ _ (c .if1 .taken))

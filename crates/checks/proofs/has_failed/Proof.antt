@@ -1,6 +1,6 @@
--- `responder::datagram::has_failed` meets its contract.
-use Rattle.responder.proofs.datagram.has_failed.Statement.{statement}
-use Rattle.responder.proofs.datagram.has_failed.Tie as tie
+-- `checks::has_failed` meets its contract.
+use Rattle.checks.proofs.has_failed.Statement.{statement}
+use Rattle.checks.proofs.has_failed.Tie as tie
 
 returns : tie.Need-returns
 returns c = rw (c .if1 .taken)

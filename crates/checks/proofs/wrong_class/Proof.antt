@@ -1,7 +1,7 @@
--- `responder::datagram::wrong_class` meets its contract.
+-- `checks::wrong_class` meets its contract.
 use borrow.Author.Tests.{eq-eqb, ne-eqb}
-use Rattle.responder.proofs.datagram.wrong_class.Statement.{statement}
-use Rattle.responder.proofs.datagram.wrong_class.Tie as tie
+use Rattle.checks.proofs.wrong_class.Statement.{statement}
+use Rattle.checks.proofs.wrong_class.Tie as tie
 
 returns : tie.Need-returns
 returns c = rw (c .if1 .taken)

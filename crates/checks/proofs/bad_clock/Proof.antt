@@ -1,7 +1,7 @@
--- `responder::opening::bad_clock` meets its contract.
+-- `checks::bad_clock` meets its contract.
 use borrow.Author.Tests.{lt-ltb, le-ltb}
-use Rattle.responder.proofs.opening.bad_clock.Statement.{statement}
-use Rattle.responder.proofs.opening.bad_clock.Tie as tie
+use Rattle.checks.proofs.bad_clock.Statement.{statement}
+use Rattle.checks.proofs.bad_clock.Tie as tie
 
 returns : tie.Need-returns
 returns c = rw (lt-ltb _ _ (c .if1 .taken))

@@ -1,9 +1,9 @@
--- `responder::opening::is_unused` meets its contract.
+-- `checks::is_unused` meets its contract.
 use mathlib.Core.Path.{sym, _∙_}
 use borrow.Author.Tests.{le-leb, lt-leb}
 use borrow.Author.Needs.{needs}
-use Rattle.responder.proofs.opening.is_unused.Statement.{statement}
-use Rattle.responder.proofs.opening.is_unused.Tie as tie
+use Rattle.checks.proofs.is_unused.Statement.{statement}
+use Rattle.checks.proofs.is_unused.Tie as tie
 
 returns : tie.Need-returns
 returns c = rw (le-leb _ _ (c .if1 .taken))

@@ -1,8 +1,8 @@
--- `responder::opening::slot` meets its contract.
+-- `checks::slot` meets its contract.
 use borrow.Author.Tests.{lt-ltb, le-ltb}
 use borrow.Author.Needs.{needs}
-use Rattle.responder.proofs.opening.slot.Statement.{statement}
-use Rattle.responder.proofs.opening.slot.Tie as tie
+use Rattle.checks.proofs.slot.Statement.{statement}
+use Rattle.checks.proofs.slot.Tie as tie
 
 returns : tie.Need-returns
 returns c = (rw (lt-ltb _ _ (c .if1 .taken)), search needs)

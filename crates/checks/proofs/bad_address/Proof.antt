@@ -1,9 +1,9 @@
--- `responder::datagram::bad_address` meets its contract.
+-- `checks::bad_address` meets its contract.
 use borrow.Author.Tests.{eq-eqb, ne-eqb}
 use Rattle.octets.proofs.Tests.{itself, opposite}
 use borrow.Author.Needs.{needs}
-use Rattle.responder.proofs.datagram.bad_address.Statement.{statement}
-use Rattle.responder.proofs.datagram.bad_address.Tie as tie
+use Rattle.checks.proofs.bad_address.Statement.{statement}
+use Rattle.checks.proofs.bad_address.Tie as tie
 
 returns : tie.Need-returns
 returns c = rw (ne-eqb _ _ (c .if1 .taken))

@@ -1,0 +1,2 @@
+pub mod MessageLaws
+pub mod DatagramLaws
