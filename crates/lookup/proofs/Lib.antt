@@ -1,0 +1,11 @@
+pub mod Laws
+pub mod Conditions
+pub mod Turns
+pub mod Refusals
+pub mod Started
+pub mod Received
+pub mod Ticked
+pub mod Lists
+pub mod GivesUp
+pub mod Whole
+pub mod Outcomes

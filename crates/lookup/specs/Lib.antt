@@ -1,0 +1,11 @@
+pub mod State
+pub mod Outcomes
+pub mod Start
+pub mod Receive
+pub mod Tick
+pub mod Laws
+pub mod Lists
+pub mod Refusals
+pub mod ExactlyWhen
+pub mod GivesUp
+pub mod Whole
