@@ -9,8 +9,14 @@ WHATS = {
     "start": ("shared", "query", "refused"),
     "datagram": ("reply", "query", "stopped", "kept", "refused"),
     "tick": ("query", "unique", "quiet", "refused"),
+    "lookup-settings": ("settings",),
+    "ask": ("query", "refused"),
+    "answer": ("part", "found", "refused"),
+    "ask-tick": ("query", "found", "none", "quiet", "refused"),
     "name": ("bad", "next"),
 }
+REPEATS = ("tick", "ask-tick")
+LOOKUPS = ("ask", "ask-tick")
 
 
 def line(call, text):
@@ -22,10 +28,16 @@ def line(call, text):
     what = "next" if first.startswith("next=") else words.take("what the call gives")
     if what not in WHATS.get(call.word, ()):
         raise w.Mistake(f"no line of this call: {what}")
-    fields = [str(call.number), call.word, *(f"{key}={value}" for key, value in call.prefix.items())]
-    fields += READERS[what](call, words, what)
+    fields = READERS[what](call, words, what)
     words.end()
-    return " ".join(fields)
+    return " ".join([*head(call), *fields])
+
+
+def head(call):
+    """What the line repeats of the call. The line of settings for lookups has its number alone."""
+    if call.word == "lookup-settings":
+        return [str(call.number)]
+    return [str(call.number), call.word, *(f"{key}={value}" for key, value in call.prefix.items())]
 
 
 def end(call, words):
@@ -59,18 +71,26 @@ def with_name(call, words, what):
     return [what, *required(words, "name")]
 
 
+def found(call, words, what):
+    """With the offset and number of a response's answers, except where a tick ends a lookup."""
+    return [what] if call.word == "ask-tick" else [what, *required(words, "at", "an")]
+
+
 def query(call, words, what):
-    """query name=K [id=ID] NAME [TYPE [CLASS]]: to the group; the call's own ID, ANY and IN unless they are written."""
+    """query name=K [id=ID] NAME [TYPE [CLASS]]: to the group; the call's own ID, ANY and IN unless they are written. A lookup's query has no
+    name=K."""
     options = words.options({"name", "id"})
-    served = w.number(w.needed(options, "name"))
-    if call.word == "tick" and "id" not in options:
+    if call.word in LOOKUPS and "name" in options:
+        raise w.Mistake("name= stands only with the queries of a host")
+    served = [] if call.word in LOOKUPS else [f"name={w.number(w.needed(options, 'name'))}"]
+    if call.word in REPEATS and "id" not in options:
         raise w.Mistake("id= is missing: a repeat has the ID of the first query")
     ident = w.number(options["id"], 2) if "id" in options else call.prefix["id"]
     asked = w.name(words.take("the name asked for"))
     asked_type = w.type_number(words.take("the type") if words else "ANY")
     asked_class = w.class_number(words.take("the class") if words else "IN")
     octets = w.big(ident, 0, 1, 0, 0, 0) + asked + w.big(asked_type, asked_class)
-    return [what, *sent(w.group(call.family), PORT, octets), f"name={served}"]
+    return [what, *sent(w.group(call.setting[0]), PORT, octets), *served]
 
 
 def reply(call, words, what):
@@ -105,6 +125,8 @@ READERS = {
     "good": good,
     "ready": alone,
     "quiet": alone,
+    "none": alone,
+    "settings": alone,
     "bad": alone,
     "shared": with_name,
     "unique": with_name,
@@ -112,5 +134,7 @@ READERS = {
     "kept": with_name,
     "query": query,
     "reply": reply,
+    "part": found,
+    "found": found,
     "next": name_read,
 }

@@ -137,27 +137,85 @@ def tick(body):
     return f"tick {prefix_text(body)}"
 
 
-def datagram_head(body):
-    (port,) = struct.unpack_from("<H", body, 32)
-    return f"datagram {prefix_text(body)} from={endpoint_text(body[15:32], port)} to={address_text(body[34:51])}"
+def arrival_text(octets):
+    """Where a datagram comes from and goes to."""
+    (port,) = struct.unpack_from("<H", octets, 17)
+    return f"from={endpoint_text(octets[:17], port)} to={address_text(octets[19:36])}"
 
 
-def datagram(body):
-    """The datagram by its header and question; what stands after the question in hexadecimal."""
-    message = body[51:]
+def message_text(message):
+    """A datagram by its header and question; what stands after the question in hexadecimal."""
     ident, flags, *counts = struct.unpack_from(">6H", message)
     asked, end = name_text(message, 12)
     asked_type, asked_class = struct.unpack_from(">HH", message, end)
-    line = f"{datagram_head(body)} {'response' if flags & w.FLAGS['QR'] else 'query'} id={ident} flags={flags:04x}"
+    line = f"{'response' if flags & w.FLAGS['QR'] else 'query'} id={ident} flags={flags:04x}"
     for key, usual, count in zip(w.COUNTS, (1, 0, 0, 0), counts):
         if count != usual:
             line += f" {key}={count}"
-    line += f" {asked} {TYPE_WORDS.get(asked_type, asked_type)} {CLASS_WORDS.get(asked_class, asked_class)}"
+    line += f" {asked} {type_text(asked_type)} {CLASS_WORDS.get(asked_class, asked_class)}"
     return f"{line} {hexadecimal(message[end + 4:])}" if message[end + 4 :] else line
+
+
+def type_text(number):
+    return TYPE_WORDS.get(number, number)
+
+
+def datagram_head(body):
+    return f"datagram {prefix_text(body)} {arrival_text(body[15:])}"
+
+
+def datagram(body):
+    return f"{datagram_head(body)} {message_text(body[51:])}"
 
 
 def datagram_raw(body):
     return f"{datagram_head(body)} {hexadecimal(body[51:])}"
+
+
+def lookup_settings(body):
+    return " ".join(["lookup-settings", *setting_texts(body)])
+
+
+def lookup_prefix_text(body):
+    return f"{prefix_text(body)} slot={body[15]}"
+
+
+def ask_head(body):
+    line = f"ask {lookup_prefix_text(body)}"
+    return line if body[16] == entries.permission(body[19:]) else f"{line} permission={body[16]}"
+
+
+def asked_type_text(body):
+    return type_text(int.from_bytes(body[17:19], "little"))
+
+
+def ask(body):
+    """The name by its labels; octets that are left over in hexadecimal."""
+    asked, end = name_text(body[19:], 0)
+    line = f"{ask_head(body)} {asked} {asked_type_text(body)}"
+    return f"{line} {hexadecimal(body[19 + end:])}" if body[19 + end :] else line
+
+
+def ask_raw(body):
+    return f"{ask_head(body)} {hexadecimal(body[19:])} {asked_type_text(body)}"
+
+
+def answer_head(body):
+    (cache,) = struct.unpack_from("<I", body, 16)
+    line = f"answer {lookup_prefix_text(body)}"
+    return f"{line if cache == entries.CACHE else f'{line} cache={cache}'} {arrival_text(body[20:])}"
+
+
+def answer(body):
+    return f"{answer_head(body)} {message_text(body[56:])}"
+
+
+def answer_raw(body):
+    return f"{answer_head(body)} {hexadecimal(body[56:])}"
+
+
+def ask_tick(body):
+    return f"ask-tick {lookup_prefix_text(body)}"
 
 
 def name(body):
@@ -170,5 +228,9 @@ FORMS = {
     33: (start,),
     34: (datagram, datagram_raw),
     35: (tick,),
+    40: (lookup_settings,),
+    41: (ask, ask_raw),
+    42: (answer, answer_raw),
+    43: (ask_tick,),
     54: (name,),
 }

@@ -150,7 +150,7 @@ def setting(word):
 
 
 def octets(words):
-    """The octets of all words that are left: hex:OCTETS, label:TEXT, name:NAME, pointer:TARGET."""
+    """The octets of all words that are left: hex:OCTETS, label:TEXT, name:NAME, pointer:TARGET, fields:TYPE/DATA."""
     found = b""
     while words:
         form, mark, text = words.take("octets").partition(":")
@@ -167,9 +167,6 @@ def pointer(text):
     if target > 0x3FFF:
         raise Mistake(f"not a pointer's target: {text}")
     return big(0xC000 | target)
-
-
-OCTETS = {"hex": from_hex, "label": label, "name": name, "pointer": pointer}
 
 
 def type_number(word):
@@ -208,13 +205,24 @@ def record_data(kind, word):
     return found[1:5] if kind == "A" else found[1:]
 
 
+def fields(text):
+    """What a record has after its owner's name, from TYPE/DATA: type, class 1, TTL 30, length of the data, data."""
+    kind, mark, word = text.partition("/")
+    if kind not in ("A", "AAAA", "PTR") or not mark:
+        raise Mistake(f"not the fields of a record: {text}")
+    data = record_data(kind, word)
+    return big(TYPES[kind], 1) + struct.pack(">IH", TTL, len(data)) + data
+
+
+OCTETS = {"hex": from_hex, "label": label, "name": name, "pointer": pointer, "fields": fields}
+
+
 def records(words):
     """The records that come next, as a reply has them: the name at offset 12, class 1, TTL 30. Gives their number too."""
     found, count = b"", 0
     while words.next() in ("A", "AAAA", "PTR"):
         kind = words.take("a record")
-        data = record_data(kind, words.take("the record's data"))
-        found += b"\xc0\x0c" + big(TYPES[kind], 1) + struct.pack(">IH", TTL, len(data)) + data
+        found += pointer("12") + fields(f"{kind}/{words.take('the data of the record')}")
         count += 1
     return found, count
 

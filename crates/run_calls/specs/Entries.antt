@@ -10,7 +10,7 @@ use Rattle.octets.specs.declared.Address.{Address}
 use Rattle.octets.specs.declared.Endpoint.{Endpoint}
 use Rattle.octets.specs.declared.Setting.{Setting}
 use Rattle.run_calls.specs.declared.entry.Kind.{Kind}
-use Rattle.run_calls.specs.declared.entry.Kind.the-variants.{Table, SetUp, Start, Datagram, Tick, Name, Unknown}
+use Rattle.run_calls.specs.declared.entry.Kind.the-variants.{Table, SetUp, Start, Datagram, Tick, Settings, Ask, Answer, AskTick, Name, Unknown}
 use Rattle.run_calls.specs.declared.entry.Why.{Why}
 use Rattle.run_calls.specs.declared.entry.Why.the-variants.{Cut, Short, Kind as KindWhy, Size}
 use Rattle.run_calls.specs.declared.entry.EntryRead.{EntryRead}
@@ -25,8 +25,12 @@ kindOf k =
     (cond (eqb k 33) Start
     (cond (eqb k 34) Datagram
     (cond (eqb k 35) Tick
+    (cond (eqb k 40) Settings
+    (cond (eqb k 41) Ask
+    (cond (eqb k 42) Answer
+    (cond (eqb k 43) AskTick
     (cond (eqb k 54) Name
-    Unknown)))))
+    Unknown)))))))))
 
 abbrev pub isUnknown : Kind → Bool
 isUnknown Table = false
@@ -34,6 +38,10 @@ isUnknown SetUp = false
 isUnknown Start = false
 isUnknown Datagram = false
 isUnknown Tick = false
+isUnknown Settings = false
+isUnknown Ask = false
+isUnknown Answer = false
+isUnknown AskTick = false
 isUnknown Name = false
 isUnknown Unknown = true
 
@@ -44,16 +52,59 @@ isSized SetUp n = eqb n 91
 isSized Start n = eqb n 16
 isSized Datagram n = leb 51 n
 isSized Tick n = eqb n 15
+isSized Settings n = eqb n 76
+isSized Ask n = leb 19 n
+isSized Answer n = leb 56 n
+isSized AskTick n = eqb n 16
 isSized Name n = leb 2 n
 isSized Unknown n = false
 
--- the octets of length and kind
+-- slots, each of which holds a lookup
+abbrev pub slots : ℕ
+slots = 4
+
+-- an entry of this kind may have this octet after its prefix: where it is the number of a slot, there is one
+abbrev pub isSlot : Kind → ℕ → Bool
+isSlot Table k = true
+isSlot SetUp k = true
+isSlot Start k = true
+isSlot Datagram k = true
+isSlot Tick k = true
+isSlot Settings k = true
+isSlot Ask k = ltb k slots
+isSlot Answer k = ltb k slots
+isSlot AskTick k = ltb k slots
+isSlot Name k = true
+isSlot Unknown k = true
+
+-- an entry of this kind is about lookups
+abbrev pub isOfLookup : Kind → Bool
+isOfLookup Table = false
+isOfLookup SetUp = false
+isOfLookup Start = false
+isOfLookup Datagram = false
+isOfLookup Tick = false
+isOfLookup Settings = true
+isOfLookup Ask = true
+isOfLookup Answer = true
+isOfLookup AskTick = true
+isOfLookup Name = false
+isOfLookup Unknown = false
+
+-- the octets of length and kind, and those with a prefix after them
 abbrev pub entryHead : ℕ
 entryHead = 4
 
--- the entry of so many octets, of some kind
-unfoldable pub sizedEntry : Kind → ℕ → EntryRead
-sizedEntry k n = cond (isUnknown k) (Bad KindWhy) (cond (isSized k (n - entryHead)) (Whole (record { kind = k; len = n })) (Bad Size))
+abbrev pub prefixEnd : ℕ
+prefixEnd = 19
+
+-- the entry of so many octets, of some kind, with some octet after its prefix
+unfoldable pub sizedEntry : Kind → ℕ → ℕ → EntryRead
+sizedEntry k n slot =
+    cond (isUnknown k) (Bad KindWhy)
+    (cond (isSized k (n - entryHead))
+    (cond (isSlot k slot) (Whole (record { kind = k; len = n })) (Bad Size))
+    (Bad Size))
 
 -- the entry at the start of s, or why there is none
 unfoldable pub entryAt : List ℕ → EntryRead
@@ -61,7 +112,7 @@ entryAt s =
     cond (ltb (length s) entryHead) (Bad Cut)
     (cond (ltb (length s) (littleAt s 0)) (Bad Cut)
     (cond (ltb (littleAt s 0) entryHead) (Bad Short)
-    (sizedEntry (kindOf (littleAt s 2)) (littleAt s 0))))
+    (sizedEntry (kindOf (littleAt s 2)) (littleAt s 0) (octetAt s prefixEnd))))
 
 -- the table that is lent after an entry of some kind
 abbrev pub lentBy : Kind → List ℕ → List ℕ → List ℕ
@@ -70,6 +121,10 @@ lentBy SetUp table body = table
 lentBy Start table body = table
 lentBy Datagram table body = table
 lentBy Tick table body = table
+lentBy Settings table body = table
+lentBy Ask table body = table
+lentBy Answer table body = table
+lentBy AskTick table body = table
 lentBy Name table body = table
 lentBy Unknown table body = table
 
@@ -95,9 +150,14 @@ addressAt s at = record { family = octetAt s at; octets = addressOctets (partOf 
 abbrev pub settingAt : List ℕ → ℕ → Setting
 settingAt s at = record { family = octetAt s at; address = addressOctets (partOf s (at + 1) (at + 17)); interval = littleAt s (at + 17) }
 
--- the settings of a set-up, and where a datagram comes from: after the prefix
+-- the settings of the four interfaces
 abbrev pub settingsOf : List ℕ → List Setting
-settingsOf s = settingAt s 15 ∷ settingAt s 34 ∷ settingAt s 53 ∷ settingAt s 72 ∷ []
+settingsOf s = settingAt s 0 ∷ settingAt s 19 ∷ settingAt s 38 ∷ settingAt s 57 ∷ []
 
+-- where a datagram comes from
 abbrev pub sourceOf : List ℕ → Endpoint
-sourceOf s = record { address = addressAt s 15; port = littleAt s 32 }
+sourceOf s = record { address = addressAt s 0; port = littleAt s 17 }
+
+-- the slot that a body names; a number that is none counts as 0
+abbrev pub slotOf : List ℕ → ℕ
+slotOf s = cond (ltb (octetAt s 15) slots) (octetAt s 15) 0

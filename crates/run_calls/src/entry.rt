@@ -1,9 +1,10 @@
 // Entries of a call file: where each stands, and what its body says. All integers are little-endian.
 ghost use mathlib.Core.Path.{_≡_};
-ghost use Prim.Native.Nat.{min};
+ghost use Prim.Native.Nat.{min, _<_};
 ghost use lib.ListN.{length};
 ghost use Rattle.octets.specs.Octets.{octetAt, partOf};
-ghost use Rattle.run_calls.specs.Entries.{kindOf, isUnknown, isSized, entryAt, lentBy, little32At, little64At, prefixOf, addressOctets, addressAt, settingAt, settingsOf, sourceOf};
+ghost use Rattle.octets.specs.Words.{littleAt};
+ghost use Rattle.run_calls.specs.Entries.{slots, kindOf, isUnknown, isSized, isSlot, isOfLookup, entryAt, lentBy, little32At, little64At, prefixOf, addressOctets, addressAt, settingAt, settingsOf, sourceOf, slotOf};
 use octets::Address;
 use octets::Endpoint;
 use octets::Setting;
@@ -14,6 +15,10 @@ pub enum Kind {
     Start,
     Datagram,
     Tick,
+    Settings,
+    Ask,
+    Answer,
+    AskTick,
     Name,
     Unknown,
 }
@@ -58,6 +63,9 @@ impl Entry {
 
     // Octets of the buffer lent to a call at the most.
     pub const ROOM: usize = 65536;
+
+    // Slots, each of which holds a lookup.
+    pub const SLOTS: usize = 4;
 }
 
 fn kind_of(number: u16) -> Kind
@@ -69,6 +77,10 @@ fn kind_of(number: u16) -> Kind
         33 => Kind::Start,
         34 => Kind::Datagram,
         35 => Kind::Tick,
+        40 => Kind::Settings,
+        41 => Kind::Ask,
+        42 => Kind::Answer,
+        43 => Kind::AskTick,
         54 => Kind::Name,
         _ => Kind::Unknown,
     }
@@ -94,8 +106,24 @@ fn is_sized(kind: Kind, octets: usize) -> bool
         Kind::Start => octets == 16,
         Kind::Datagram => 51 <= octets,
         Kind::Tick => octets == 15,
+        Kind::Settings => octets == 76,
+        Kind::Ask => 19 <= octets,
+        Kind::Answer => 56 <= octets,
+        Kind::AskTick => octets == 16,
         Kind::Name => 2 <= octets,
         Kind::Unknown => false,
+    }
+}
+
+// Whether an entry of this kind may have this octet after its prefix: where it is the number of a slot, there is one.
+fn is_slot(kind: Kind, octet: u8) -> bool
+    ensures { λ r. ⌜ r ≡ isSlot kind octet ⌝ }
+{
+    match kind {
+        Kind::Ask => octet < 4,
+        Kind::Answer => octet < 4,
+        Kind::AskTick => octet < 4,
+        _ => true,
     }
 }
 
@@ -117,10 +145,26 @@ pub fn read(rest: &[u8]) -> EntryRead
     if is_unknown(kind) {
         return EntryRead::Bad(Why::Kind);
     }
-    if is_sized(kind, len - Entry::HEAD) {
+    if !is_sized(kind, len - Entry::HEAD) {
+        return EntryRead::Bad(Why::Size);
+    }
+    if is_slot(kind, octets::octet(rest, Entry::HEAD + Entry::PREFIX)) {
         return EntryRead::Whole(Entry { kind, len });
     }
     EntryRead::Bad(Why::Size)
+}
+
+// Whether an entry is about lookups.
+pub fn is_of_lookup(kind: Kind) -> bool
+    ensures { λ r. ⌜ r ≡ isOfLookup kind ⌝ }
+{
+    match kind {
+        Kind::Settings => true,
+        Kind::Ask => true,
+        Kind::Answer => true,
+        Kind::AskTick => true,
+        _ => false,
+    }
 }
 
 // The table that is lent after an entry: the entry's body, or the table before it.
@@ -202,14 +246,28 @@ fn setting_at(body: &[u8], at: u16) -> Setting
     }
 }
 
-// The settings of a set-up.
-pub fn settings(body: &[u8]) -> [Setting; Setting::COUNT]
-    ensures { λ r. ⌜ r ≡ settingsOf (now (body .entry)) ⌝ }
+// What stands after the prefix of a set-up or a datagram: the settings, or where it comes from.
+pub fn after_prefix(body: &[u8]) -> &[u8]
+    ensures { λ r. ⌜ now r ≡ partOf (now (body .entry)) 15 (length (now (body .entry))) ⌝ }
 {
-    let a = setting_at(body, 15);
-    let b = setting_at(body, 34);
-    let c = setting_at(body, 53);
-    let d = setting_at(body, 72);
+    octets::part(body, Entry::PREFIX, body.len())
+}
+
+// What stands in a datagram to a lookup after the prefix, the slot, and the room of the cache, which is not read.
+pub fn after_slot(body: &[u8]) -> &[u8]
+    ensures { λ r. ⌜ now r ≡ partOf (now (body .entry)) 20 (length (now (body .entry))) ⌝ }
+{
+    octets::part(body, 20, body.len())
+}
+
+// The settings of the four interfaces.
+pub fn settings(s: &[u8]) -> [Setting; Setting::COUNT]
+    ensures { λ r. ⌜ r ≡ settingsOf (now (s .entry)) ⌝ }
+{
+    let a = setting_at(s, 0);
+    let b = setting_at(s, 19);
+    let c = setting_at(s, 38);
+    let d = setting_at(s, 57);
     [a, b, c, d]
 }
 
@@ -221,25 +279,48 @@ pub fn started_name(body: &[u8]) -> usize
 }
 
 // Where a datagram comes from.
-pub fn source(body: &[u8]) -> Endpoint
-    ensures { λ r. ⌜ r ≡ sourceOf (now (body .entry)) ⌝ }
+pub fn source(s: &[u8]) -> Endpoint
+    ensures { λ r. ⌜ r ≡ sourceOf (now (s .entry)) ⌝ }
 {
-    let address = address_at(body, 15);
+    let address = address_at(s, 0);
     Endpoint {
         address,
-        port: octets::little(body, 32),
+        port: octets::little(s, 17),
     }
 }
 
 // Where a datagram was sent.
-pub fn destination(body: &[u8]) -> Address
-    ensures { λ r. ⌜ r ≡ addressAt (now (body .entry)) 34 ⌝ }
+pub fn destination(s: &[u8]) -> Address
+    ensures { λ r. ⌜ r ≡ addressAt (now (s .entry)) 19 ⌝ }
 {
-    address_at(body, 34)
+    address_at(s, 19)
 }
 
-pub fn datagram(body: &[u8]) -> &[u8]
-    ensures { λ r. ⌜ now r ≡ partOf (now (body .entry)) 51 (length (now (body .entry))) ⌝ }
+pub fn datagram(s: &[u8]) -> &[u8]
+    ensures { λ r. ⌜ now r ≡ partOf (now (s .entry)) 36 (length (now (s .entry))) ⌝ }
 {
-    octets::part(body, 51, body.len())
+    octets::part(s, 36, s.len())
+}
+
+// The slot that an entry names. A number that is none counts as 0, and no entry that was read has one.
+pub fn slot(body: &[u8]) -> usize
+    ensures { λ r. ⌜ r ≡ slotOf (now (body .entry)) ⌝ }
+    ensures { λ r. ⌜ r < slots ⌝ }
+{
+    let k = octets::octet(body, Entry::PREFIX) as usize;
+    if k < Entry::SLOTS { k } else { 0 }
+}
+
+// The type that is looked up; before it stand the slot and the permission, which is not read.
+pub fn asked_type(body: &[u8]) -> u16
+    ensures { λ r. ⌜ r ≡ littleAt (now (body .entry)) 17 ⌝ }
+{
+    octets::little(body, 17)
+}
+
+// The octets of the name that is looked up.
+pub fn asked_name(body: &[u8]) -> &[u8]
+    ensures { λ r. ⌜ now r ≡ partOf (now (body .entry)) 19 (length (now (body .entry))) ⌝ }
+{
+    octets::part(body, 19, body.len())
 }

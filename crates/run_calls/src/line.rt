@@ -86,6 +86,10 @@ fn put_entry(text: &mut [u8], at: usize, n: u64, kind: Kind) -> usize {
         Kind::Start => put(text, at, b" start"),
         Kind::Datagram => put(text, at, b" datagram"),
         Kind::Tick => put(text, at, b" tick"),
+        Kind::Settings => put(text, at, b" settings"),
+        Kind::Ask => put(text, at, b" ask"),
+        Kind::Answer => put(text, at, b" answer"),
+        Kind::AskTick => put(text, at, b" ask-tick"),
         Kind::Name => put(text, at, b" name"),
         Kind::Unknown => at,
     }
@@ -159,6 +163,66 @@ pub fn put_call(
     let at = put_entry(text, at, n, kind);
     let at = put_prefix(text, at, p);
     let at = put_outcome(text, at, outcome, to, out);
+    put(text, at, b"\n")
+}
+
+// A response: where its answers begin, and how many there are.
+fn put_answers(text: &mut [u8], at: usize, what: &[u8], offset: usize, answers: u16) -> usize {
+    let at = put(text, at, what);
+    let at = put_field(text, at, b" at=", offset as u64);
+    put_field(text, at, b" an=", answers as u64)
+}
+
+fn put_asked(
+    text: &mut [u8],
+    at: usize,
+    outcome: lookup::Outcome,
+    to: Endpoint,
+    out: &[u8],
+) -> usize {
+    match outcome {
+        lookup::Outcome::Refused(refusal) => put_refusal(text, at, refusal),
+        lookup::Outcome::Quiet => put(text, at, b" quiet"),
+        lookup::Outcome::Query { len } => put_sent(
+            text,
+            at,
+            b" query",
+            to,
+            octets::part(out, 0, len),
+        ),
+        lookup::Outcome::Part {
+            at: offset,
+            answers,
+        } => put_answers(text, at, b" part", offset, answers),
+        lookup::Outcome::Found {
+            at: offset,
+            answers,
+        } => put_answers(text, at, b" found", offset, answers),
+        lookup::Outcome::Collected => put(text, at, b" found"),
+        lookup::Outcome::NoSuchName => put(text, at, b" none"),
+    }
+}
+
+// The line of a lookup's call.
+pub fn put_lookup(
+    text: &mut [u8],
+    at: usize,
+    n: u64,
+    kind: Kind,
+    p: Prefix,
+    outcome: lookup::Outcome,
+    to: Endpoint,
+    out: &[u8],
+) -> usize {
+    let at = put_entry(text, at, n, kind);
+    let at = put_prefix(text, at, p);
+    let at = put_asked(text, at, outcome, to, out);
+    put(text, at, b"\n")
+}
+
+// The line of settings for lookups.
+pub fn put_settings(text: &mut [u8], at: usize, n: u64) -> usize {
+    let at = put_entry(text, at, n, Kind::Settings);
     put(text, at, b"\n")
 }
 

@@ -4,6 +4,7 @@ ghost use lib.ListN.{length, replicate};
 
 mod entry;
 mod line;
+mod lookups;
 
 use entry::Entry;
 use entry::EntryRead;
@@ -13,10 +14,18 @@ use host::Host;
 use host::Step;
 use libc::STDIN_FILENO;
 use libc::STDOUT_FILENO;
+use lookups::Lookups;
 
-// What a call gives: the next host, and the octets of lines after it.
+// What a call of the host gives: the next host, and the octets of lines after it.
 struct Served {
     host: Host,
+    used: usize,
+}
+
+// What an entry leaves.
+struct Taken {
+    host: Host,
+    lookups: Lookups,
     used: usize,
 }
 
@@ -41,15 +50,21 @@ fn call(kind: Kind, host: Host, table: &[u8], body: &[u8], out: &mut [u8]) -> St
     let p = entry::prefix_of(body);
     let interface = p.interface as usize;
     match kind {
-        Kind::SetUp => responder::set_up(table, entry::settings(body), p.time, p.id),
+        Kind::SetUp => responder::set_up(
+            table,
+            entry::settings(entry::after_prefix(body)),
+            p.time,
+            p.id,
+        ),
         Kind::Start => {
             let name = entry::started_name(body);
             responder::start(host, table, interface, name, p.time, p.id, out)
         }
         Kind::Datagram => {
-            let from = entry::source(body);
-            let to = entry::destination(body);
-            let datagram = entry::datagram(body);
+            let arrival = entry::after_prefix(body);
+            let from = entry::source(arrival);
+            let to = entry::destination(arrival);
+            let datagram = entry::datagram(arrival);
             responder::receive(
                 host,
                 table,
@@ -102,8 +117,8 @@ fn spill(text: &[u8], used: usize) -> usize {
     0
 }
 
-// Takes an entry: makes its call, if it is one of a call, and writes its line.
-fn take(
+// Takes an entry of the host, a table, or a name.
+fn take_host(
     kind: Kind,
     host: Host,
     table: &[u8],
@@ -126,9 +141,41 @@ fn take(
     }
 }
 
+// Takes an entry: makes its call, if it is one of a call, and writes its line.
+fn take(
+    kind: Kind,
+    host: Host,
+    lookups: Lookups,
+    table: &[u8],
+    body: &[u8],
+    n: u64,
+    out: &mut [u8],
+    text: &mut [u8],
+    used: usize,
+) -> Taken {
+    if entry::is_of_lookup(kind) {
+        let a = lookups::take(kind, lookups, body, n, out, text, used);
+        let lookups = a.lookups;
+        return Taken {
+            host,
+            lookups,
+            used: a.used,
+        };
+    }
+    let s = take_host(kind, host, table, body, n, out, text, used);
+    let host = s.host;
+    let lookups = lookups.after(kind, host);
+    Taken {
+        host,
+        lookups,
+        used: s.used,
+    }
+}
+
 // Takes the entries of a file in order.
 fn run(file: &[u8], out: &mut [u8], text: &mut [u8]) {
     let mut host = Host::zero();
+    let mut lookups = Lookups::fresh(host);
     let mut table = octets::part(file, 0, 0);
     let mut at: usize = 0;
     let mut n: u64 = 0;
@@ -146,9 +193,10 @@ fn run(file: &[u8], out: &mut [u8], text: &mut [u8]) {
         let body = octets::part(rest, Entry::HEAD, len);
         let lent = entry::lent(kind, table, body);
         table = lent;
-        let s = take(kind, host, table, body, n, out, text, used);
-        host = s.host;
-        used = spill(text, s.used);
+        let t = take(kind, host, lookups, table, body, n, out, text, used);
+        host = t.host;
+        lookups = t.lookups;
+        used = spill(text, t.used);
         at = at + len;
         n = n + 1;
     }

@@ -1,22 +1,26 @@
 -- `run_calls::run` meets its contract.
 use lib.ListN.{length}
 use mathlib.Core.Path.{_≡_, refl}
-use Prim.Native.Nat.{_-_, _≤_}
+use Prim.Native.Nat.{_+_, _-_, _≤_}
 use denote.Ref.{now}
+use Rattle.run_calls.specs.Entries.{entryHead}
 use Rattle.run_calls.proofs.EntryLaws.{ends-in}
 use borrow.Author.Needs.{needs}
 use Rattle.run_calls.proofs.run.Statement.{statement}
 use Rattle.run_calls.proofs.run.Tie as tie
 
 abbrev Inv-loop : tie.InvT-loop
-Inv-loop file out₀ text₀ host₀ table₀ at₀ n₀ used₀ out text host table at n used =
+Inv-loop file out₀ text₀ host₀ lookups₀ table₀ at₀ n₀ used₀ out text host lookups table at n used =
     (at ≤ length file) × (n ≤ at) × (length out ≡ length out₀) × (length text ≡ length text₀)
 
 abbrev μ-loop : tie.MeasureT-loop
-μ-loop file out₀ text₀ host₀ table₀ at₀ n₀ used₀ out text host table at n used = length file - at
+μ-loop file out₀ text₀ host₀ lookups₀ table₀ at₀ n₀ used₀ out text host lookups table at n used = length file - at
 
 zero-requires : tie.Need-zero-requires Inv-loop μ-loop
 zero-requires c κs = search needs
+
+fresh-requires : tie.Need-fresh-requires Inv-loop μ-loop
+fresh-requires c κs = search needs
 
 part-requires : tie.Need-part-requires Inv-loop μ-loop
 part-requires c κs = search needs
@@ -63,32 +67,39 @@ take-requires c κs = search needs
 spill-requires : tie.Need-spill-requires Inv-loop μ-loop
 spill-requires c κs = search needs
 
+-- the entry that was read ends in the file
+ends : (r : tie.After-read2 Inv-loop μ-loop)
+    → (entryHead ≤ r .read2 .given .0 .0 .len) × (r .before .before .before .before .before .loop .at + r .read2 .given .0 .0 .len ≤ length (now (r .before .before .before .before .before .before .before .before .before .before .before .before .args .file)))
+ends r =
+    ends-in (now (r .before .before .before .before .before .before .before .before .before .before .before .before .args .file)) (now (r .before .before .before .part2 .result)) (r .before .before .before .before .before .loop .at) (r .before .before .read .result) _
+    (r .before .before .before .before .loop-test .taken) (r .before .before .before .part2 .ensures) (r .before .before .read .ensures) (r .read2 .given .1)
+
 add-at : tie.Need-add-at Inv-loop μ-loop
 add-at c =
-    let l = c .before .before .before .before .before .before .before .before .before .before .before .before .before .before .before .before .before .before in
-    let g = l .before .before .before .before .before .before .args in
-    let w = ends-in (now (g .file)) (now (c .before .before .before .before .before .before .before .before .before .before .before .before .before .before .before .before .part2 .result)) (l .loop .at) (c .before .before .before .before .before .before .before .before .before .before .before .before .before .before .before .read .result) _ (c .before .before .before .before .before .before .before .before .before .before .before .before .before .before .before .before .before .loop-test .taken) (c .before .before .before .before .before .before .before .before .before .before .before .before .before .before .before .before .part2 .ensures) (c .before .before .before .before .before .before .before .before .before .before .before .before .before .before .before .read .ensures) (c .before .before .before .before .before .before .before .before .before .before .before .before .before .read2 .given .1) in
+    let l = c .before .before .before .before .before .before .before .before .before .before .before .before .before .before .before .before .before .before .before in
+    let g = l .before .before .before .before .before .before .before .args in
+    let w = ends (c .before .before .before .before .before .before .before .before .before .before .before .before .before .before) in
     search needs
 
 add-n : tie.Need-add-n Inv-loop μ-loop
 add-n c =
-    let l = c .before .before .before .before .before .before .before .before .before .before .before .before .before .before .before .before .before .before in
-    let g = l .before .before .before .before .before .before .args in
-    let w = ends-in (now (g .file)) (now (c .before .before .before .before .before .before .before .before .before .before .before .before .before .before .before .before .part2 .result)) (l .loop .at) (c .before .before .before .before .before .before .before .before .before .before .before .before .before .before .before .read .result) _ (c .before .before .before .before .before .before .before .before .before .before .before .before .before .before .before .before .before .loop-test .taken) (c .before .before .before .before .before .before .before .before .before .before .before .before .before .before .before .before .part2 .ensures) (c .before .before .before .before .before .before .before .before .before .before .before .before .before .before .before .read .ensures) (c .before .before .before .before .before .before .before .before .before .before .before .before .before .read2 .given .1) in
+    let l = c .before .before .before .before .before .before .before .before .before .before .before .before .before .before .before .before .before .before .before in
+    let g = l .before .before .before .before .before .before .before .args in
+    let w = ends (c .before .before .before .before .before .before .before .before .before .before .before .before .before .before) in
     search needs
 
 loop-less : tie.Need-loop-less Inv-loop μ-loop
 loop-less c =
-    let l = c .before .before .before .before .before .before .before .before .before .before .before .before .before .before .before .before .before .before in
-    let g = l .before .before .before .before .before .before .args in
-    let w = ends-in (now (g .file)) (now (c .before .before .before .before .before .before .before .before .before .before .before .before .before .before .before .before .part2 .result)) (l .loop .at) (c .before .before .before .before .before .before .before .before .before .before .before .before .before .before .before .read .result) _ (c .before .before .before .before .before .before .before .before .before .before .before .before .before .before .before .before .before .loop-test .taken) (c .before .before .before .before .before .before .before .before .before .before .before .before .before .before .before .before .part2 .ensures) (c .before .before .before .before .before .before .before .before .before .before .before .before .before .before .before .read .ensures) (c .before .before .before .before .before .before .before .before .before .before .before .before .before .read2 .given .1) in
+    let l = c .before .before .before .before .before .before .before .before .before .before .before .before .before .before .before .before .before .before .before in
+    let g = l .before .before .before .before .before .before .before .args in
+    let w = ends (c .before .before .before .before .before .before .before .before .before .before .before .before .before .before) in
     search needs
 
 loop-again : tie.Need-loop-again Inv-loop μ-loop
 loop-again c =
-    let l = c .before .before .before .before .before .before .before .before .before .before .before .before .before .before .before .before .before .before in
-    let g = l .before .before .before .before .before .before .args in
-    let w = ends-in (now (g .file)) (now (c .before .before .before .before .before .before .before .before .before .before .before .before .before .before .before .before .part2 .result)) (l .loop .at) (c .before .before .before .before .before .before .before .before .before .before .before .before .before .before .before .read .result) _ (c .before .before .before .before .before .before .before .before .before .before .before .before .before .before .before .before .before .loop-test .taken) (c .before .before .before .before .before .before .before .before .before .before .before .before .before .before .before .before .part2 .ensures) (c .before .before .before .before .before .before .before .before .before .before .before .before .before .before .before .read .ensures) (c .before .before .before .before .before .before .before .before .before .before .before .before .before .read2 .given .1) in
+    let l = c .before .before .before .before .before .before .before .before .before .before .before .before .before .before .before .before .before .before .before in
+    let g = l .before .before .before .before .before .before .before .args in
+    let w = ends (c .before .before .before .before .before .before .before .before .before .before .before .before .before .before) in
     (search needs, search needs, search needs, search needs)
 
 write-requires-2 : tie.Need-write-requires-2 Inv-loop μ-loop
@@ -110,6 +121,7 @@ run-spec =
     Inv-loop
     μ-loop
     zero-requires
+    fresh-requires
     part-requires
     loop-holds
     part-requires-2

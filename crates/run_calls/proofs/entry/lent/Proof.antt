@@ -1,31 +1,35 @@
 -- `run_calls::entry::lent` meets its contract.
+use borrow.Author.Needs.{needs}
 use mathlib.Core.Path.{_≡_, refl}
 use mathlib.Core.List.{[], _∷_}
 use types.Run.{miss}
 use denote.Ref.{now}
-use Rattle.run_calls.specs.Entries.{lentBy}
 use Rattle.run_calls.specs.declared.entry.Kind.{Kind}
-use Rattle.run_calls.specs.declared.entry.Kind.the-variants.{Table, SetUp, Start, Datagram, Tick, Name, Unknown}
-use borrow.Author.Needs.{needs}
+use Rattle.run_calls.specs.declared.entry.Kind.the-variants.{Table, SetUp, Start, Datagram, Tick, Settings, Ask, Answer, AskTick, Name, Unknown}
+use Rattle.run_calls.specs.Entries.{lentBy}
 use Rattle.run_calls.proofs.entry.lent.Statement.{statement}
 use Rattle.run_calls.proofs.entry.lent.Tie as tie
+
+-- the kinds that are left
+others : (c : tie.At-match-keys2) (kind : Kind) → c .before .args .kind ≡ kind
+    → now (c .before .args .table) ≡ lentBy kind (now (c .before .args .table)) (now (c .before .args .body))
+others c Table e = absurd (miss (1 ∷ 2 ∷ 3 ∷ 4 ∷ 5 ∷ 6 ∷ 7 ∷ 8 ∷ 9 ∷ 10 ∷ []) 0 tt (rw e at (c .match .keys2)))
+others c SetUp e = refl
+others c Start e = refl
+others c Datagram e = refl
+others c Tick e = refl
+others c Settings e = refl
+others c Ask e = refl
+others c Answer e = refl
+others c AskTick e = refl
+others c Name e = refl
+others c Unknown e = refl
 
 enum-told : tie.Need-enum-told
 enum-told c = search needs
 
 returns : tie.Need-returns
 returns c = search needs
-
--- the kinds that are left
-others : (c : tie.At-match-keys2) (kind : Kind) → c .before .args .kind ≡ kind
-    → now (c .before .args .table) ≡ lentBy kind (now (c .before .args .table)) (now (c .before .args .body))
-others c Table e = absurd (miss (1 ∷ 2 ∷ 3 ∷ 4 ∷ 5 ∷ 6 ∷ []) 0 tt (rw e at (c .match .keys2)))
-others c SetUp e = refl
-others c Start e = refl
-others c Datagram e = refl
-others c Tick e = refl
-others c Name e = refl
-others c Unknown e = refl
 
 returns-2 : tie.Need-returns-2
 returns-2 c = others c _ refl

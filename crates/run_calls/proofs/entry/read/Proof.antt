@@ -1,12 +1,11 @@
 -- `run_calls::entry::read` meets its contract.
 use borrow.Author.Needs.{needs}
 use borrow.Author.Tests.{lt-ltb, le-ltb}
-use mathlib.Core.Path.{_≡_, sym, _∙_, ap}
+use mathlib.Core.Path.{_≡_, sym, _∙_}
 use denote.Ref.{now}
-use Rattle.octets.specs.Words.{littleAt}
-use Rattle.run_calls.specs.Entries.{kindOf, isUnknown, isSized, entryHead, sizedEntry, entryAt}
-use mathlib.Core.Bool.{true, false}
-use Prim.Native.Nat.{_-_}
+use Rattle.octets.specs.Octets.{octetAt}
+use Rattle.run_calls.specs.Entries.{sizedEntry, entryAt, prefixEnd}
+use Rattle.run_calls.proofs.EntryLaws.{not-so, so, sized, unknown-kind, wrong-size, wrong-slot, right}
 use Rattle.run_calls.proofs.entry.read.Statement.{statement}
 use Rattle.run_calls.proofs.entry.read.Tie as tie
 
@@ -43,41 +42,72 @@ kind-of-requires c κs = search needs
 is-unknown-requires : tie.Need-is-unknown-requires
 is-unknown-requires c κs = search needs
 
+-- once its length and kind are read, the entry goes by them
+by-kind : (c : tie.After-kind-of)
+    → entryAt (now (c .before .before .before .before .before .before .before .args .rest))
+    ≡ sizedEntry (c .kind-of .result) (c .before .before .before .before .little .result) (octetAt (now (c .before .before .before .before .before .before .before .args .rest)) prefixEnd)
+by-kind c =
+    sized (now (c .before .before .before .before .before .before .before .args .rest)) (c .before .before .before .before .little .result) (c .kind-of .result)
+    (c .before .before .before .before .before .if1 .left) (c .before .before .before .if2 .left) (c .before .before .if3 .left)
+    (c .before .before .before .before .little .ensures) cc
+
 returns-4 : tie.Need-returns-4
-unfolding entryAt sizedEntry
 returns-4 c =
-    let n = c .before .before .before .before .before .before .little .ensures in
-    let h = c .before .before .before .before .before .if2 .left in
-    let i = c .before .before .before .before .if3 .left in
-    let k : kindOf (littleAt (now (c .before .before .before .before .before .before .before .before .before .args .rest)) 2) ≡ c .before .before .kind-of .result = cc in
-    rw (le-ltb _ _ (c .before .before .before .before .before .before .before .if1 .left), le-ltb _ _ (rw n at h), le-ltb _ _ (rw n at i)) (rw (k, ← c .before .is-unknown .ensures, c .if4 .taken))
+    let k = c .before .before in
+    sym (by-kind k ∙ unknown-kind _ _ _ (sym (c .before .is-unknown .ensures) ∙ c .if4 .taken))
 
 is-sized-requires : tie.Need-is-sized-requires
 is-sized-requires c κs = search needs
 
 returns-5 : tie.Need-returns-5
-unfolding entryAt sizedEntry
 returns-5 c =
-    let n = c .before .before .before .before .before .before .before .before .little .ensures in
-    let h = c .before .before .before .before .before .before .before .if2 .left in
-    let i = c .before .before .before .before .before .before .if3 .left in
-    let k : kindOf (littleAt (now (c .before .before .before .before .before .before .before .before .before .before .before .args .rest)) 2) ≡ c .before .before .before .before .kind-of .result = cc in
-    let u : isUnknown (c .before .before .before .before .kind-of .result) ≡ false = sym (c .before .before .before .is-unknown .ensures) ∙ c .before .before .if4 .left in
-    let z : isSized (c .before .before .before .before .kind-of .result) (littleAt (now (c .before .before .before .before .before .before .before .before .before .before .before .args .rest)) 0 - entryHead) ≡ true =
-    rw (← n) (sym (c .before .is-sized .ensures) ∙ c .if5 .taken) in
-    rw (le-ltb _ _ (c .before .before .before .before .before .before .before .before .before .if1 .left), le-ltb _ _ (rw n at h), le-ltb _ _ (rw n at i)) (rw (k, u, z) (rw n))
+    let k = c .before .before .before .before in
+    sym (by-kind k ∙ wrong-size _ _ _ (sym (c .before .before .before .is-unknown .ensures) ∙ c .before .before .if4 .left) (sym (c .before .is-sized .ensures) ∙ not-so _ (c .if5 .taken)))
+
+add-octet : tie.Need-add-octet
+add-octet c = search needs
+
+octet-requires : tie.Need-octet-requires
+octet-requires c κs = search needs
+
+is-slot-requires : tie.Need-is-slot-requires
+is-slot-requires c κs = search needs
 
 returns-6 : tie.Need-returns-6
-unfolding entryAt sizedEntry
 returns-6 c =
-    let n = c .before .before .before .before .before .before .before .before .little .ensures in
-    let h = c .before .before .before .before .before .before .before .if2 .left in
-    let i = c .before .before .before .before .before .before .if3 .left in
-    let k : kindOf (littleAt (now (c .before .before .before .before .before .before .before .before .before .before .before .args .rest)) 2) ≡ c .before .before .before .before .kind-of .result = cc in
-    let u : isUnknown (c .before .before .before .before .kind-of .result) ≡ false = sym (c .before .before .before .is-unknown .ensures) ∙ c .before .before .if4 .left in
-    let z : isSized (c .before .before .before .before .kind-of .result) (littleAt (now (c .before .before .before .before .before .before .before .before .before .before .before .args .rest)) 0 - entryHead) ≡ false =
-    rw (← n) (sym (c .before .is-sized .ensures) ∙ c .if5 .left) in
-    rw (le-ltb _ _ (c .before .before .before .before .before .before .before .before .before .if1 .left), le-ltb _ _ (rw n at h), le-ltb _ _ (rw n at i)) (rw (k, u, z))
+    let k = c .before .before .before .before .before .before .before in
+    let o = c .before .is-slot .ensures in
+    sym (by-kind k ∙ right _ _ _
+    (sym (c .before .before .before .before .before .before .is-unknown .ensures) ∙ c .before .before .before .before .before .if4 .left)
+    (sym (c .before .before .before .before .is-sized .ensures) ∙ so _ (c .before .before .before .if5 .left))
+    (sym (rw (c .before .before .octet .ensures) at o) ∙ c .if6 .taken))
+
+returns-7 : tie.Need-returns-7
+returns-7 c =
+    let k = c .before .before .before .before .before .before .before in
+    let o = c .before .is-slot .ensures in
+    sym (by-kind k ∙ wrong-slot _ _ _
+    (sym (c .before .before .before .before .before .before .is-unknown .ensures) ∙ c .before .before .before .before .before .if4 .left)
+    (sym (c .before .before .before .before .is-sized .ensures) ∙ so _ (c .before .before .before .if5 .left))
+    (sym (rw (c .before .before .octet .ensures) at o) ∙ c .if6 .left))
 
 pub read-spec : {M : Type 1} → statement M
-read-spec = tie.close (tie.spec returns little-requires cast-len returns-2 returns-3 little-requires-2 kind-of-requires is-unknown-requires returns-4 is-sized-requires returns-5 returns-6)
+read-spec =
+    tie.close
+    (tie.spec
+    returns
+    little-requires
+    cast-len
+    returns-2
+    returns-3
+    little-requires-2
+    kind-of-requires
+    is-unknown-requires
+    returns-4
+    is-sized-requires
+    returns-5
+    add-octet
+    octet-requires
+    is-slot-requires
+    returns-6
+    returns-7)
