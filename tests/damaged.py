@@ -5,8 +5,9 @@
 
 The files are made from the stored ones: cut, with octets changed, with entries shuffled, with random entries of the right size after a
 good beginning, and of random octets. For each the exit status is 0, there is one line for each whole entry, of its kind and with its
-interface, time and ID, and a line `end` exactly where an entry is cut, short, unknown or ill-sized. What the calls decide is not looked at
-here. The exit status is 0 only if there were files, entries and ends, and none went wrong.
+interface, time and ID, and a line `end` exactly where an entry is cut, short, unknown or ill-sized, or has a slot that there is not. What
+the calls decide is not looked at here. The exit status is 0 only if there were files, entries of hosts and of lookups, ends and ends by a
+slot, and none went wrong.
 """
 
 import random
@@ -27,8 +28,16 @@ KINDS = {
     33: ("start", 16, 16),
     34: ("datagram", 51, 65531),
     35: ("tick", 15, 15),
+    40: ("settings", 76, 76),
+    41: ("ask", 19, 65531),
+    42: ("answer", 56, 65531),
+    43: ("ask-tick", 16, 16),
     54: ("name", 2, 65531),
 }
+LOOKUPS = (40, 41, 42, 43)
+SLOTTED = (41, 42, 43)
+SLOT = 15  # where the slot stands in the body
+UNPREFIXED = ("table", "settings", "name")
 
 SENT = r"to=\d+/[0-9a-f]{32}/\d+ len=\d+ hex=[0-9a-f]+"
 BAD_TABLE = r"refused no=2 at=\d+"
@@ -38,6 +47,10 @@ FORMS = {
     "start": rf"shared name=\d+|query {SENT} name=\d+|{BAD_TABLE}|refused no=(1|3|4|12|19)",
     "datagram": rf"reply {SENT}|query {SENT} name=\d+|(stopped|kept) name=\d+|{BAD_TABLE}|refused no=(1|[3-9]|1[0-6])",
     "tick": rf"query {SENT} name=\d+|unique name=\d+|quiet|{BAD_TABLE}|refused no=(1|3|4)",
+    "settings": "",
+    "ask": rf"query {SENT}|refused no=(1|3|4|10)",
+    "answer": r"(part|found) at=\d+ an=\d+|refused no=(1|[3-9]|10|1[5-8])",
+    "ask-tick": rf"query {SENT}|found|none|quiet|refused no=(1|4)",
     "name": r"bad|next=\d+ pointers=\d+ name=([0-9a-f]{2})+",
 }
 
@@ -69,13 +82,31 @@ def flaw(octets, place):
     if kind not in KINDS:
         return "kind"
     word, fewest, most = KINDS[kind]
-    return None if fewest <= length - 4 <= most else "size"
+    if not fewest <= length - 4 <= most or no_slot(kind, octets[place + 4 :]):
+        return "size"
+    return None
+
+
+def no_slot(kind, body):
+    """Whether the body names a slot that there is not."""
+    return kind in SLOTTED and body[SLOT : SLOT + 1] > b"\3"
+
+
+def ends_by_slot(octets, end):
+    """Whether a run ends with this line at an entry whose size is right."""
+    if not end or not end.endswith("why=size"):
+        return False
+    place = int(re.search(r"at=(\d+)", end)[1])
+    length, kind = struct.unpack_from("<HH", octets, place)
+    return KINDS[kind][1] <= length - 4 <= KINDS[kind][2]
 
 
 def head(number, kind, body):
     """The beginning of the entry's line, which repeats what the entry says."""
     word = KINDS[kind][0]
-    if word in ("table", "name"):
+    if word == "settings":
+        return f"{number} {word}"
+    if word in UNPREFIXED:
         return f"{number} {word} "
     interface, time, ident = struct.unpack_from("<BQH", body)
     return f"{number} {word} if={interface} t={time} id={ident} "
@@ -140,8 +171,10 @@ class Maker:
         kind = self.random.choice(list(KINDS))
         word, fewest, most = KINDS[kind]
         body = bytearray(self.random.randbytes(fewest + self.random.randrange(min(most - fewest, 300) + 1)))
-        if word not in ("table", "name"):
+        if word not in UNPREFIXED:
             struct.pack_into("<BQ", body, 0, self.random.randrange(5), self.random.choice((0, 300, 50000, 2**48 - 1, 2**48, 2**64 - 1)))
+        if kind in SLOTTED and self.random.randrange(10):
+            body[SLOT] = self.random.randrange(4)
         return entry(kind, bytes(body))
 
     def random_octets(self):
@@ -175,12 +208,13 @@ def run(program, octets):
 
 
 def try_file(program, octets, label):
-    """Runs one file. Gives its whole entries, its ends and its faults, as numbers."""
+    """Runs one file. Gives its whole entries, those of lookups, its ends, those by a slot, and its faults, as numbers."""
     found = fault(octets, *run(program, octets))
     if found:
         print(f"run_calls: {label}: {found}")
     entries, end = whole_entries(octets)
-    return len(entries), int(end is not None), int(found is not None)
+    lookups = sum(kind in LOOKUPS for kind, body in entries)
+    return len(entries), lookups, int(end is not None), int(ends_by_slot(octets, end)), int(found is not None)
 
 
 def main():
@@ -195,9 +229,12 @@ def main():
     maker = Maker(stored, seed)
     files = edges() + [maker.file() for _ in range(count)]
     tallies = [try_file(program, octets, f"file {number} of seed {seed}") for number, octets in enumerate(files)]
-    entries, ends, wrong = map(sum, zip(*tallies))
-    print(f"run_calls: {len(files)} random and damaged files with {entries} whole entries and {ends} ends; {wrong} went wrong")
-    return 0 if count and entries and ends and not wrong else 1
+    entries, lookups, ends, by_slot, wrong = map(sum, zip(*tallies))
+    print(
+        f"run_calls: {len(files)} random and damaged files with {entries} whole entries ({lookups} of lookups)"
+        f" and {ends} ends ({by_slot} by a slot); {wrong} went wrong"
+    )
+    return 0 if count and entries > lookups > 0 and ends > by_slot > 0 and not wrong else 1
 
 
 if __name__ == "__main__":
