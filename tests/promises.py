@@ -14,7 +14,7 @@ What is read in docs/PROMISES.md, always between backticks:
     `crate::Type::name`       a function or a constant in an impl of the type
 
 The first column, "rule", holds the numbers of docs/RULES.md. A table whose first column is "call" pairs each call with its definition: that
-one has to be the whole of the call's `ensures`, and to be named by the statement about many hosts.
+one has to be the whole of the call's `ensures`. The definition of a host's call has to be named by the statement about many hosts too.
 """
 
 import re
@@ -26,10 +26,9 @@ CRATES = ROOT / "crates"
 PROMISES = ROOT / "docs" / "PROMISES.md"
 RULES = ROOT / "docs" / "RULES.md"
 
-CALLS = CRATES / "responder" / "src" / "lib.rt"
 LINK = CRATES / "uniqueness" / "specs" / "Link.antt"
 EDITS = ("edits", "a wrong program", "code and definition alike")
-GROUPS = "MTCONFSBKRUDLHE"  # groups of rules that have rows; P is for the program around the calls
+GROUPS = "MTCONFSBKRUDALHE"  # groups of rules that have rows; P is for the program around the calls
 RULE = re.compile(rf"\b[P{GROUPS}][1-9][0-9]*\b")
 SPAN = re.compile(r"`([^`]+)`")
 PLACE = re.compile(r"([a-z_]+)/((?:[A-Z]\w*/)*[A-Z]\w*)((?: \S+)+)")
@@ -157,14 +156,16 @@ class Check:
             self.wrong(line, f"`{text}` is no citation for this place")
 
     def pair(self, line, call, definition):
-        """A call of the host, and the definition that its contract and the statement about many hosts share."""
-        file, name = definition.removeprefix("host/").split()
-        source = CALLS.read_text(encoding="utf-8")
-        contract = re.search(rf"pub fn {call.removeprefix('responder::')}\(.*?\n    ensures {{ λ r\. ⌜ doneBy r .*? ≡ (\w+) [^\n]*\n{{", source, re.S)
-        used = re.search(rf"ghost use Rattle\.host\.specs\.{file}\.{{[^}}]*\b{name}(?: as (\w+))?[,}}]", source)
+        """A call, and the definition that its contract is an equation with; that of a host's call stands in the statement about many hosts."""
+        code, function = call.split("::")
+        meaning, file, name = re.split("[/ ]", definition)
+        source = (CRATES / code / "src" / "lib.rt").read_text(encoding="utf-8")
+        contract = re.search(rf"pub fn {function}\(.*?\n    ensures {{ λ r\. ⌜ doneBy r .*? ≡ (\w+) [^\n]*\n{{", source, re.S)
+        used = re.search(rf"ghost use Rattle\.{meaning}\.specs\.{file}\.{{[^}}]*\b{name}(?: as (\w+))?[,}}]", source)
         if not contract or not used or contract.group(1) != (used.group(1) or name):
             self.wrong(line, f"the ensures of {call} is no equation with {definition}")
-        if not re.search(rf"use Rattle\.host\.specs\.{file}\.{{[^}}]*\b{name}\b", LINK.read_text(encoding="utf-8")):
+        link = LINK.read_text(encoding="utf-8")
+        if meaning == "host" and not re.search(rf"use Rattle\.host\.specs\.{file}\.{{[^}}]*\b{name}\b", link):
             self.wrong(line, f"{LINK.name} does not name {definition}")
         self.pairs.add(call)
 
