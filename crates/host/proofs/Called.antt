@@ -1,16 +1,15 @@
 -- The checks 1 to 4: they pass exactly where a call is made well, and each refuses where its condition holds.
 use Prim.Native.Nat.{ℕ, _<_, _≤_}
 use mathlib.Core.Path.{_≡_, ap}
-use mathlib.Core.Logic.{_⊎_, inl, inr, ⊎-elim}
+use mathlib.Core.Logic.{inl, inr, ⊎-elim}
 use mathlib.Core.List.{List}
 use mathlib.Core.Bool.{Bool, true, false, not}
 use lib.ListN.{length}
 use lib.Dec.{ltb, leb}
 use borrow.Author.Tests.{lt-ltb, le-leb}
-use Rattle.octets.specs.Tests.{_or_}
 use Rattle.octets.specs.Bounds.{interfaces, ipv4, ipv6}
 use Rattle.octets.specs.Addresses.{isFamily}
-use Rattle.octets.proofs.Tests.{either, either-number, not-below, not-upto, not-not, neither}
+use Rattle.octets.proofs.Tests.{either, either-number, not-below, not-upto, not-not, neither, not-is}
 use Rattle.refusal.specs.Numbers.{Report}
 use Rattle.refusal.specs.Checks.{Checks, Verdict, refused, Gives, next, stop, Clear}
 use Rattle.name_table.specs.Check.{Held, Checked, bad, checkTable, isBad, badAt, namesIn}
@@ -20,7 +19,7 @@ use Rattle.host.specs.Early.{noInterface, badClock, early}
 use Rattle.host.specs.ExactlyWhen.{IsUsed, CalledWell}
 use Rattle.host.specs.Served.{RefusedFirst, no-room, bad-table, no-interface, bad-clock}
 use Rattle.host.specs.declared.Host.{Host}
-use Rattle.host.proofs.Conditions.{good-is, is-false}
+use Rattle.host.proofs.Conditions.{good-is}
 
 module _ (h : Host) (table : List ℕ) (i time : ℕ) (out : List ℕ) where
   abbrev used : Bool
@@ -83,7 +82,7 @@ module _ (h : Host) (table : List ℕ) (i time : ℕ) (out : List ℕ) where
       (next (ap isBad e)
       (stop
       (either (leb interfaces i) (not used) .1
-      (⊎-elim (λ l. inl (le-leb _ _ l)) (λ u. inr (ap not (is-false used (either-number _ ipv4 ipv6) u))) n))))
+      (⊎-elim (λ l. inl (le-leb _ _ l)) (λ u. inr (ap not (not-is used (either-number _ ipv4 ipv6) .1 u))) n))))
   first-gives rest (bad-clock names r e l u n) =
       next (not-below (length out) room .1 r)
       (next (ap isBad e)

@@ -145,8 +145,3 @@ due-is Off time = (λ e. never e refl, λ z. absurd z)
 due-is Unique time = (λ e. never e refl, λ z. absurd z)
 due-is Stopped time = (λ e. never e refl, λ z. absurd z)
 due-is Shared time = (λ e. never e refl, λ z. absurd z)
-
--- a test that does not hold, where its condition does not
-pub is-false : (b : Bool) {A : Type 0} → ((b ≡ true) ↔ A) → (A → ⊥) → b ≡ false
-is-false true i n = absurd (n (i .0 refl))
-is-false false i n = refl

@@ -6,7 +6,7 @@ use mathlib.Core.Logic.{_↔_, ⊎-elim}
 use mathlib.Core.List.{List}
 use mathlib.Core.Bool.{Bool, true, false, not}
 use Rattle.octets.specs.Tests.{_and_, _or_}
-use Rattle.octets.proofs.Tests.{only-first, not-not}
+use Rattle.octets.proofs.Tests.{only-first, not-not, not-is}
 use Rattle.octets.specs.Addresses.{addressOf, belowAddress}
 use Rattle.refusal.specs.Numbers.{Report, number}
 use Rattle.refusal.specs.Checks.{passed, refused, Gives, next, stop, done}
@@ -22,7 +22,7 @@ use Rattle.host.specs.Served.{RefusedFirst}
 use Rattle.host.specs.declared.NameState.{NameState}
 use Rattle.host.specs.declared.NameState.the-variants.{Stopped}
 use Rattle.host.specs.declared.Host.{Host}
-use Rattle.host.proofs.Conditions.{not-off, not-stopped, waits-is, taken-is, is-false}
+use Rattle.host.proofs.Conditions.{not-off, not-stopped, waits-is, taken-is}
 use Rattle.host.proofs.Called.{first-gives}
 use Rattle.host.proofs.Arrives.{receive-by, question-is, asks-none, is-found, number-is, state-is, query-gives, response-gives}
 
@@ -143,7 +143,7 @@ module _ (h : Host) (a : Arrival) where
   pub keeps-it : (k : ℕ) → KeepsWhen h a k → receive h a ≡ silent (withClock h (a .time)) (a .out) (kept k)
   keeps-it k w =
       let m = w .match in
-      let lost = loses-is (w .names) (w .q) (m .response) k (m .name) false (is-false _ (lost-is (w .q) k (m .awaited)) (w .not-taken)) in
+      let lost = loses-is (w .names) (w .q) (m .response) k (m .name) false (not-is _ (lost-is (w .q) k (m .awaited)) .1 (w .not-taken)) in
       let d : decision h a ≡ keep = rw (m .response .is-response, lost) in
       taken-response (w .names) (w .q) (m .response) k (m .name) keep (m .awaited) (m .not-ours) d
 
@@ -158,7 +158,7 @@ module _ (h : Host) (a : Arrival) where
       (λ t.
       let e = is-found h a (w .names) (w .q) (w .response .arrives) (t .0) (t .1) in
       let s : awaits (state h a) (header a .id) (question a .qtype) (question a .class) ≡ false =
-      awaits-is (w .names) (w .q) (w .response) (t .0) (t .1) ∙ is-false _ (awaited-is (w .q) (t .0)) (t .2) in
+      awaits-is (w .names) (w .q) (w .response) (t .0) (t .1) ∙ not-is _ (awaited-is (w .q) (t .0)) .1 (t .2) in
       unawaited e s)
       (w .none)))
     where

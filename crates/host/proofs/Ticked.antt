@@ -8,7 +8,7 @@ use native.Mathlib.Omega.{arith}
 use lib.ListN.{length, getD}
 use lib.Dec.{ltb, eqb}
 use borrow.Author.Tests.{eqb-true, eqb-false, lt-ltb, le-ltb, ltb-false}
-use Rattle.octets.proofs.Tests.{split, never}
+use Rattle.octets.proofs.Tests.{split, never, not-is}
 use Rattle.refusal.specs.Numbers.{Report}
 use Rattle.refusal.specs.Checks.{pass, Verdict, refused, passed, verdict, Gives, done, Clear}
 use Rattle.refusal.proofs.Checks.{gives, clear}
@@ -26,7 +26,7 @@ use Rattle.host.specs.declared.Name.{Name}
 use Rattle.host.specs.declared.NameState.{NameState}
 use Rattle.host.specs.declared.NameState.the-variants.{Off, Verifying, Unique, Defending, Stopped, Shared}
 use Rattle.host.specs.declared.Host.{Host}
-use Rattle.host.proofs.Conditions.{due-is, is-false}
+use Rattle.host.proofs.Conditions.{due-is}
 use Rattle.host.proofs.Called.{called-is, called-gives, first-gives}
 
 -- ---- the search for a name that is due
@@ -116,7 +116,7 @@ module _ (h : Host) (table : List ℕ) (i time : ℕ) (out : List ℕ) where
         from = omega arith;
         below = omega arith;
         due = due-is (stateOf h i k) time .1 (w .due);
-        none = λ m l u. is-false _ (due-is (stateOf h i m) time) (w .first m u);
+        none = λ m l u. not-is _ (due-is (stateOf h i m) time) .1 (w .first m u);
       })
 
   module _ (id : ℕ) where
@@ -148,7 +148,7 @@ module _ (h : Host) (table : List ℕ) (i time : ℕ) (out : List ℕ) where
     tick-rests w =
         let n : namesIn (checkTable table) ≡ w .names = ap namesIn (w .called .good-table) in
         due-by none (w .names) (w .called)
-        (none-found _ _ 0 time λ m l. is-false _ (due-is (stateOf h i m) time) (w .none m (subst (λ (hs : List Held). m < length hs) n (omega arith))))
+        (none-found _ _ 0 time λ m l. not-is _ (due-is (stateOf h i m) time) .1 (w .none m (subst (λ (hs : List Held). m < length hs) n (omega arith))))
 
     -- it serves the k-th name
     served-by : (k : ℕ) → ServesWhen h table i time out k → tick h table i time id out ≡ serve (stateOf h i k) h table i k time out

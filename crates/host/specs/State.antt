@@ -93,6 +93,13 @@ pub data IsInterval (s : Setting) : ℕ → Type 0 where
   short-interval : s .interval ≡ 100 → IsInterval s 100
   long-interval : s .interval ≢ 100 → IsInterval s 1000
 
+-- in plain words: a timer that is due at a time, and the settings of an interface that is unused, all zero
+abbrev pub dueAt : ℕ → Timer
+dueAt time = record { due = time }
+
+abbrev pub zeros : Setting
+zeros = record { family = 0; address = 0 ∷ 0 ∷ 0 ∷ 0 ∷ 0 ∷ 0 ∷ 0 ∷ 0 ∷ 0 ∷ 0 ∷ 0 ∷ 0 ∷ 0 ∷ 0 ∷ 0 ∷ 0 ∷ []; interval = 0 }
+
 -- a timer that is started now
 abbrev pub timerFrom : Setting → ℕ → Timer
 timerFrom s time = record { due = time + intervalOf s }

@@ -8,11 +8,11 @@ use lib.Seq.{take-at}
 use Rattle.octets.specs.Octets.{Octets}
 use Rattle.octets.specs.Addresses.{unused}
 use Rattle.octets.specs.declared.Setting.{Setting}
-use Rattle.host.specs.State.{IsInterval}
+use Rattle.host.specs.State.{IsInterval, dueAt}
 use Rattle.host.specs.ThreeQueries.{Given}
 use Rattle.lookup.specs.State.{withPhase}
 use Rattle.lookup.specs.Outcomes.{Done, silent, no-such-name}
-use Rattle.lookup.specs.ExactlyWhen.{lookupQuery, dueAt, begun, StartsWhen, Asks}
+use Rattle.lookup.specs.ExactlyWhen.{lookupQuery, begun, StartsWhen, Asks}
 use Rattle.lookup.specs.GivesUp.{ticked, begins, runOf, TickedWhenDue, GivesUp}
 use Rattle.lookup.specs.declared.Phase.the-variants.{Asking, Ended}
 use Rattle.lookup.specs.declared.Lookup.{Lookup}

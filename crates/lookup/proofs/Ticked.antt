@@ -11,13 +11,13 @@ use Rattle.octets.proofs.Tests.{not-below}
 use Rattle.refusal.specs.Numbers.{Report}
 use Rattle.refusal.specs.Checks.{Clear, passed}
 use Rattle.refusal.proofs.Checks.{passes}
-use Rattle.host.specs.State.{IsInterval}
+use Rattle.host.specs.State.{IsInterval, dueAt}
 use Rattle.host.specs.Early.{noInterface}
 use Rattle.host.proofs.Conditions.{interval-is}
 use Rattle.lookup.specs.State.{settingOf, withPhase}
 use Rattle.lookup.specs.Outcomes.{Done, refusal, query, quiet, collected, no-such-name}
 use Rattle.lookup.specs.Tick.{Turn, rest, again, give-up, finish, tickChecks, turnOf, turned, tick}
-use Rattle.lookup.specs.ExactlyWhen.{IsUsed, lookupQuery, dueAt, Comes, Asks, TicksWhen, RepeatsWhen, GivesUpWhen, FinishesWhen, QuietWhen}
+use Rattle.lookup.specs.ExactlyWhen.{IsUsed, lookupQuery, Comes, Asks, TicksWhen, RepeatsWhen, GivesUpWhen, FinishesWhen, QuietWhen}
 use Rattle.lookup.specs.declared.Phase.the-variants.{Asking, Ended}
 use Rattle.lookup.specs.declared.Lookup.{Lookup}
 use Rattle.lookup.proofs.Laws.{tick-by, Ticks, tick-is}

@@ -16,6 +16,7 @@ use Rattle.message.specs.Header.{headerOf}
 use Rattle.message.specs.Question.{IsQuestion}
 use Rattle.message.specs.Query.{queryWith}
 use Rattle.message.specs.Records.{AreRecords}
+use Rattle.host.specs.State.{dueAt, zeros}
 use Rattle.host.specs.declared.Timer.{Timer}
 use Rattle.lookup.specs.State.{settingOf, withPhase}
 use Rattle.lookup.specs.Outcomes.{Result, query, Done}
@@ -35,9 +36,6 @@ pub record IsUsed (i : ℕ) (s : Setting) : Type 0 where
 -- the query of a lookup: its ID, flags 0, one question and nothing else; the name and the type as given, class 1
 abbrev pub lookupQuery : ℕ → List ℕ → ℕ → List ℕ
 lookupQuery id name qtype = queryWith id (name ++ (qtype / 256 ∷ qtype % 256 ∷ 0 ∷ 1 ∷ []))
-
-abbrev pub dueAt : ℕ → Timer
-dueAt time = record { due = time }
 
 -- ---- what a call gives
 
@@ -77,9 +75,6 @@ begun settings i name qtype time id n =
     }
 
 -- What a refused start gives: an ended lookup, four unused interfaces, all else zero.
-abbrev pub zeros : Setting
-zeros = record { family = 0; address = replicate 16 0; interval = 0 }
-
 abbrev pub zeroLookup : Lookup
 zeroLookup =
     record {

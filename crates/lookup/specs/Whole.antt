@@ -12,13 +12,13 @@ use Rattle.refusal.specs.Numbers.{Report}
 use Rattle.refusal.specs.Cases.{Case, First}
 use Rattle.message.specs.declared.Question.{Question}
 use Rattle.message.specs.Header.{headerOf}
-use Rattle.host.specs.State.{IsInterval}
+use Rattle.host.specs.State.{IsInterval, dueAt}
 use Rattle.host.specs.declared.Timer.{Timer}
 use Rattle.lookup.specs.State.{settingOf, withPhase}
 use Rattle.lookup.specs.Outcomes.{refused, quiet, part, found, collected, no-such-name, Done}
 use Rattle.lookup.specs.Receive.{Arrival}
 use Rattle.lookup.specs.Refusals.{startCases, receiveCases, tickCases}
-use Rattle.lookup.specs.ExactlyWhen.{lookupQuery, dueAt, Comes, Asks, StartsWhen, begun, zeroLookup, FoundWhen, PartWhen, RepeatsWhen, GivesUpWhen, FinishesWhen, QuietWhen}
+use Rattle.lookup.specs.ExactlyWhen.{lookupQuery, Comes, Asks, StartsWhen, begun, zeroLookup, FoundWhen, PartWhen, RepeatsWhen, GivesUpWhen, FinishesWhen, QuietWhen}
 use Rattle.lookup.specs.declared.Phase.the-variants.{Asking, Collecting, Ended}
 use Rattle.lookup.specs.declared.Lookup.{Lookup}
 

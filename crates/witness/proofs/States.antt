@@ -9,7 +9,7 @@ use lib.ListN.{length, getD, take, drop}
 use Rattle.octets.specs.Tests.{_or_}
 use Rattle.octets.specs.Octets.{Octets}
 use Rattle.octets.specs.Addresses.{addressOf, belowAddress}
-use Rattle.octets.proofs.Tests.{never}
+use Rattle.octets.proofs.Tests.{never, not-is}
 use Rattle.refusal.specs.Numbers.{number}
 use Rattle.refusal.specs.Checks.{refused, next, stop}
 use Rattle.name_table.specs.Check.{Held, noName}
@@ -18,7 +18,7 @@ use Rattle.message.specs.declared.HeaderRead.the-variants.{Good}
 use Rattle.message.specs.Header.{headerOf}
 use Rattle.message.specs.Query.{queryWith}
 use Rattle.message.specs.Reply.{replyHeader}
-use Rattle.host.specs.State.{isOwn, settingOf, stateOf, off, unique, stopped, shared, verifying, is, timerFrom}
+use Rattle.host.specs.State.{isOwn, settingOf, stateOf, off, unique, stopped, shared, verifying, is, timerFrom, dueAt}
 use Rattle.host.specs.Outcomes.{Done, shared as sharedName, kept, stopped as stoppedName}
 use Rattle.host.specs.Start.{start}
 use Rattle.host.specs.Receive.{Arrival, state, notOurs, badNotification, receive}
@@ -28,11 +28,11 @@ use Rattle.host.specs.declared.NameState.{NameState}
 use Rattle.host.specs.declared.NameState.the-variants.{Off, Verifying, Unique, Defending, Stopped, Shared}
 use Rattle.host.specs.declared.Host.{Host}
 use Rattle.host.proofs.Arrives.{receive-by, is-found, state-is, query-gives}
-use Rattle.host.proofs.Conditions.{not-off, not-stopped, interval-is, is-false}
+use Rattle.host.proofs.Conditions.{not-off, not-stopped, interval-is}
 use Rattle.host.proofs.Started.{start-asks, start-shares, is-busy}
 use Rattle.host.proofs.Received.{replies, defends, stops-it, keeps-it, not-ours, has-stopped, not-awaited, own-address}
 use Rattle.host.proofs.Sent.{reply-read}
-use Rattle.witness.specs.States.{Interval, Ours, Place, dueAt, Refuses, Replies, Becomes, Asks, checkOf, UniqueStarts, SharedStarts, ClearQuery, Notification, OwnNotification, FromBelow, Stops, Keeps, Response}
+use Rattle.witness.specs.States.{Interval, Ours, Place, Refuses, Replies, Becomes, Asks, checkOf, UniqueStarts, SharedStarts, ClearQuery, Notification, OwnNotification, FromBelow, Stops, Keeps, Response}
 use Rattle.witness.proofs.Comes.{question-out, refuses, leaves, becomes, asks, asks-check}
 use Rattle.witness.proofs.Ours.{ours-is, is-below, from-below}
 
@@ -161,7 +161,7 @@ module _ (h : Host) (a : Arrival) (names : List Held) (q : Question) (k : ℕ) (
       defended e =
           let s = question-out a q octets (w .arrives .question) in
           let b = asks h (a .interface) k p _ (a .time) _ (a .out) _ (w .arrives .called .used) (omega (arith, s .1, w .arrives .called .room))
-          (defends h a k (record { names = names; q = q; query = w; name = f; c-set = c; unique = e; not-ours = is-false _ (ours-is h _) o })) in
+          (defends h a k (record { names = names; q = q; query = w; name = f; c-set = c; unique = e; not-ours = not-is _ (ours-is h _) .1 o })) in
           subst (λ (m : ℕ). Asks h (a .interface) k (Defending (a .id) (q .qtype) (q .class) (dueAt (a .time + m))) (a .time) sent (a .out) (receive h a)) (interval-is _ n v)
           (subst (λ (x : List ℕ). Asks h (a .interface) k (Defending (a .id) (q .qtype) (q .class) (timerFrom (settingOf h (a .interface)) (a .time))) (a .time) x (a .out) (receive h a)) (s .0) b)
 
@@ -250,7 +250,7 @@ module _ (h : Host) (a : Arrival) (names : List Held) (q : Question) (k : ℕ) (
       not-below n b = n (from-below h a (w .arrives .from-family) (w .arrives .called .used) b)
 
       elsewhere : (Ours h (a .from .address) → ⊥) → isOwn h (a .from .address) ≡ false
-      elsewhere o = is-false _ (ours-is h _) o
+      elsewhere o = not-is _ (ours-is h _) .1 o
 
       go : (x : NameState) → stateHere h a k ≡ x → Response h a q k x (receive h a)
       go Off e = refused-15 _ e (λ z. z)

@@ -17,7 +17,7 @@ use Rattle.refusal.specs.Checks.{pass, Clear}
 use Rattle.name_table.specs.Check.{Held, good, noName, checkTable, namesIn}
 use Rattle.message.specs.declared.Question.{Question}
 use Rattle.message.specs.Header.{headerOf}
-use Rattle.host.specs.State.{stateOf, IsInterval}
+use Rattle.host.specs.State.{stateOf, IsInterval, dueAt, zeros}
 use Rattle.host.specs.Outcomes.{Done, refused, ready, quiet, unique as uniqueName}
 use Rattle.host.specs.SetUp.{setUp}
 use Rattle.host.specs.Start.{start}
@@ -35,7 +35,7 @@ use Rattle.host.proofs.Conditions.{interval-is}
 use Rattle.host.proofs.Started.{sets-up}
 use Rattle.host.proofs.Ticked.{tick-rests, tick-settles, tick-asks}
 use Rattle.host.proofs.Laws.{set-up-refused}
-use Rattle.witness.specs.States.{Interval, Place, Leaves, Moves, Becomes, Asks, checkOf, IsDue, First, Alone, VerifyingTicks, Ticks, dueAt, Ours, UniqueStarts, Notification, WaitsUntil, verifying, defending, Serves, asks-again, settles, DueExactly, zeros, hostOf}
+use Rattle.witness.specs.States.{Interval, Place, Leaves, Moves, Becomes, Asks, checkOf, IsDue, First, Alone, VerifyingTicks, Ticks, Ours, UniqueStarts, Notification, WaitsUntil, verifying, defending, Serves, asks-again, settles, DueExactly, hostOf}
 use Rattle.witness.proofs.Comes.{leaves, becomes, asks-check}
 use Rattle.witness.proofs.States.{unique-starts, notification}
 use Rattle.witness.proofs.Whole.{passed-all}

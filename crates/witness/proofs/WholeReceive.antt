@@ -20,7 +20,7 @@ use Rattle.message.specs.declared.Question.{Question}
 use Rattle.message.specs.Header.{headerOf}
 use Rattle.message.specs.Question.{questionOr}
 use Rattle.message.specs.Query.{queryWith}
-use Rattle.host.specs.State.{stateOf, settingOf, off, unique, is}
+use Rattle.host.specs.State.{stateOf, settingOf, off, unique, is, dueAt}
 use Rattle.host.specs.Outcomes.{Done}
 use Rattle.host.specs.Laws.{Accepted}
 use Rattle.host.specs.Receive.{Arrival, header, question, found, nameNumber, state, fromUs, awaits, queryChecks, responseChecks, receiveChecks, receiveIf, receive}
@@ -33,7 +33,7 @@ use Rattle.host.proofs.Conditions.{found-at, not-off, not-stopped, has-interval
 use Rattle.host.proofs.Laws.{receive-refused}
 use Rattle.witness.specs.Refusals.{receiveCases}
 use Rattle.witness.specs.Replies.{WholeReply, ReplyFrom}
-use Rattle.witness.specs.States.{Interval, Ours, Place, dueAt, Asks, Notification, FromBelow, Response}
+use Rattle.witness.specs.States.{Interval, Ours, Place, Asks, Notification, FromBelow, Response}
 use Rattle.witness.specs.Whole.{Full, ForName, Heard, PlainReceive}
 use Rattle.witness.proofs.RefusedArrivals.{awaited-is, receive-refused-exactly}
 use Rattle.witness.proofs.Replies.{reply-whole}

@@ -15,7 +15,7 @@ use Rattle.name_table.specs.Entries.{Entry, unique as uniqueKind, shared as sha
 use Rattle.name_table.proofs.Held.{few-held}
 use Rattle.name_table.proofs.Meaning.{good-iff}
 use Rattle.names.specs.Names.{encode}
-use Rattle.host.specs.State.{settingOf, stateOf}
+use Rattle.host.specs.State.{settingOf, stateOf, dueAt}
 use Rattle.host.specs.Outcomes.{ready, shared as sharedName, Done}
 use Rattle.host.specs.Laws.{Accepted}
 use Rattle.host.specs.SetUp.{setUpChecks, setUpBy, setUp}
@@ -28,7 +28,7 @@ use Rattle.host.proofs.Called.{called-is}
 use Rattle.host.proofs.Conditions.{has-interval}
 use Rattle.host.proofs.Laws.{set-up-refused, start-refused}
 use Rattle.witness.specs.Refusals.{startCases}
-use Rattle.witness.specs.States.{Interval, Place, dueAt, Becomes, Asks, checkOf, hostOf, UniqueStarts, SharedStarts}
+use Rattle.witness.specs.States.{Interval, Place, Becomes, Asks, checkOf, hostOf, UniqueStarts, SharedStarts}
 use Rattle.witness.specs.Whole.{Full, PlainSetUp, PlainStart}
 use Rattle.witness.proofs.Refusals.{set-up-refused-exactly, start-refused-exactly}
 use Rattle.witness.proofs.States.{unique-starts, shared-starts}

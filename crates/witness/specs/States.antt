@@ -17,12 +17,11 @@ use Rattle.message.specs.declared.Question.{Question}
 use Rattle.message.specs.declared.HeaderRead.the-variants.{Good}
 use Rattle.message.specs.Header.{headerOf, headerAt}
 use Rattle.message.specs.Query.{queryWith}
-use Rattle.host.specs.State.{interfaceOf, settingOf, stateOf, IsInterval}
+use Rattle.host.specs.State.{interfaceOf, settingOf, stateOf, IsInterval, dueAt}
 use Rattle.host.specs.Outcomes.{Result, refused, quiet, kept, unique, shared, stopped, query, reply, Done}
 use Rattle.host.specs.Laws.{Accepted, OnlyChanges}
 use Rattle.host.specs.Receive.{Arrival}
 use Rattle.host.specs.Tick.{tick}
-use Rattle.host.specs.declared.Timer.{Timer}
 use Rattle.host.specs.declared.NameState.{NameState}
 use Rattle.host.specs.declared.NameState.the-variants.{Off, Verifying, Unique, Defending, Stopped, Shared}
 use Rattle.host.specs.declared.Name.{Name}
@@ -49,9 +48,6 @@ pub record Ours (h : Host) (x : Address) : Type 0 where
 pub record Place (h : Host) (i k : ℕ) : Type 0 where
   pub interface : i < length (h .interfaces)
   pub name : k < length (interfaceOf h i .names)
-
-abbrev pub dueAt : ℕ → Timer
-dueAt time = record { due = time }
 
 -- ---- what a call can come to
 
@@ -277,10 +273,6 @@ abbrev pub fresh : Setting → Interface
 fresh s =
     let off : Name = record { state = Off } in
     record { setting = s; names = off ∷ off ∷ off ∷ off ∷ off ∷ off ∷ off ∷ off ∷ [] }
-
--- a setting of zeros: unused
-abbrev pub zeros : Setting
-zeros = record { family = 0; address = 0 ∷ 0 ∷ 0 ∷ 0 ∷ 0 ∷ 0 ∷ 0 ∷ 0 ∷ 0 ∷ 0 ∷ 0 ∷ 0 ∷ 0 ∷ 0 ∷ 0 ∷ 0 ∷ []; interval = 0 }
 
 abbrev pub hostOf : Setting → Setting → Setting → Setting → ℕ → Host
 hostOf s t u v time = record { interfaces = fresh s ∷ fresh t ∷ fresh u ∷ fresh v ∷ []; clock = time }

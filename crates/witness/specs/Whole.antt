@@ -18,7 +18,7 @@ use Rattle.message.specs.declared.QuestionRead.the-variants.{Good}
 use Rattle.message.specs.Header.{headerOf}
 use Rattle.message.specs.Question.{questionAt}
 use Rattle.message.specs.Query.{queryWith}
-use Rattle.host.specs.State.{interfaceOf, stateOf}
+use Rattle.host.specs.State.{interfaceOf, stateOf, dueAt, zeros}
 use Rattle.host.specs.Outcomes.{refused, ready, quiet, shared, Done}
 use Rattle.host.specs.Laws.{Accepted}
 use Rattle.host.specs.Receive.{Arrival}
@@ -27,7 +27,7 @@ use Rattle.host.specs.declared.NameState.the-variants.{Off, Verifying, Unique, 
 use Rattle.host.specs.declared.Host.{Host}
 use Rattle.witness.specs.Refusals.{IsFor, setUpCases, startCases, tickCases, receiveCases}
 use Rattle.witness.specs.Replies.{ReplyFrom}
-use Rattle.witness.specs.States.{Interval, dueAt, Leaves, Becomes, Asks, checkOf, Taken, Challenged, IsDue, First as NoneBefore, Ticks, hostOf, zeros}
+use Rattle.witness.specs.States.{Interval, Leaves, Becomes, Asks, checkOf, Taken, Challenged, IsDue, First as NoneBefore, Ticks, hostOf}
 
 -- A host as it is in the code: four interfaces with eight names each.
 pub record Full (h : Host) : Type 0 where
