@@ -191,16 +191,19 @@ def all_runs(programs):
     return report
 
 
-def packets():
-    """How many lines all captures have, by protocol."""
-    captures = sorted({place.capture for place in (*HOSTS, *ASKERS)})
+def all_captures():
+    return sorted(path.stem for path in (ROOT / "captures").glob("*.jsonl"))
+
+
+def packets(captures):
+    """How many lines the captures have, by protocol."""
     return Counter(line.proto for capture in captures for line in convert.captured.read(capture))
 
 
 def unused():
-    """Captures that no place is in."""
+    """Captures with lines of UDP that no place is in."""
     known = {place.capture for place in (*HOSTS, *ASKERS)}
-    return sorted(path.stem for path in (ROOT / "captures").glob("*.jsonl") if path.stem not in known)
+    return [capture for capture in all_captures() if capture not in known and packets([capture])["udp"]]
 
 
 def as_stored(text, write):
@@ -225,7 +228,7 @@ def main():
     report = all_runs(programs)
     good = as_stored("\n".join(report.text[1:]) + "\n", chosen.write)
     print("captures:", ", ".join(f"{word} {count}" for word, count in sorted(report.outcomes.items())))
-    lines = packets()
+    lines = packets(all_captures())
     print(f"captures: {lines['udp']} lines of UDP; {lines['tcp']} of TCP are left out")
     wrong = [f"no run reaches {word}" for word in REACHED if not report.outcomes[word]]
     wrong += [f"no place is in captures/{name}.jsonl" for name in unused()] + programs.differ
