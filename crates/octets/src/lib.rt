@@ -105,18 +105,21 @@ pub fn put_octets(out: &mut [u8], at: usize, src: &[u8])
 }
 
 // An address: its family is 4 or 6. Family 4 uses the first four octets.
+#[repr(C)]
 pub struct Address {
     pub family: u8,
     pub octets: [u8; Address::IPV6_OCTETS],
 }
 
 // An address and a UDP port.
+#[repr(C)]
 pub struct Endpoint {
     pub address: Address,
     pub port: u16,
 }
 
 // The settings of one interface: its family (any other than 4 or 6: unused), address, and repeat interval in milliseconds.
+#[repr(C)]
 pub struct Setting {
     pub family: u8,
     pub address: [u8; Address::IPV6_OCTETS],

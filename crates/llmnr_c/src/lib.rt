@@ -1,0 +1,198 @@
+// The calls for C. A state crosses as a flat struct, with numbers in the place of enums; include/llmnr.h has the same structs. Each call gives
+// what the library's definition gives on the state that the flat struct stands for, made flat again.
+ghost use mathlib.Core.Path.{_≡_};
+ghost use mathlib.Core.List.{[]};
+ghost use Rattle.name_table.specs.Check.{checkTable};
+ghost use Rattle.message.specs.Records.{recordAt};
+ghost use Rattle.host.specs.SetUp.{setUp};
+ghost use Rattle.host.specs.Start.{start as startOf};
+ghost use Rattle.host.specs.Receive.{receive as receiveOf};
+ghost use Rattle.host.specs.Tick.{tick as tickOf};
+ghost use Rattle.lookup.specs.Start.{start as lookupStartOf};
+ghost use Rattle.lookup.specs.Receive.{receive as lookupReceiveOf};
+ghost use Rattle.lookup.specs.Tick.{tick as lookupTickOf};
+ghost use Rattle.llmnr_c.specs.FlatHost.{hostOf, done, madeFlat, madeFlatOn};
+ghost use Rattle.llmnr_c.specs.FlatLookup.{lookupOf, done as lookupDone, madeFlat as lookupMadeFlat};
+ghost use Rattle.llmnr_c.specs.Reading.{flatRecord, flatTable};
+
+mod flat;
+mod flat_lookup;
+mod outcome;
+mod reading;
+
+use flat::FlatHost;
+use flat::FlatSettings;
+use flat::FlatStep;
+use flat_lookup::FlatLookup;
+use flat_lookup::FlatLookupStep;
+use octets::Address;
+use octets::Endpoint;
+use octets::Setting;
+use reading::FlatRecord;
+use reading::FlatTable;
+
+// Sets a host up.
+#[no_mangle]
+pub extern "C" fn llmnr_set_up(table: &[u8], settings: FlatSettings, time: u64, id: u16) -> FlatStep
+    ensures { λ r. ⌜ done r [] ≡ madeFlat (setUp (now (table .entry)) (settings .interfaces) time id) ⌝ }
+{
+    let interfaces = settings.interfaces;
+    let step = responder::set_up(table, interfaces, time, id);
+    let host = flat::flat_host(step.host);
+    let came = step.outcome;
+    let outcome = outcome::of_host(came);
+    let to = step.to;
+    FlatStep { host, outcome, to }
+}
+
+// Starts a name on an interface.
+#[no_mangle]
+pub extern "C" fn llmnr_start(
+    mut host: FlatHost,
+    table: &[u8],
+    interface: usize,
+    name: usize,
+    time: u64,
+    id: u16,
+    out: &mut [u8],
+) -> FlatStep
+    ensures { λ r. ⌜ done r (now (out .exit)) ≡ madeFlatOn host interface (startOf (hostOf host) (now (table .entry)) interface name time id (now (out .entry))) ⌝ }
+{
+    let at = checks::slot(interface);
+    let here = host.interfaces[at];
+    let settings = flat::settings_of(host.interfaces);
+    let seen = flat::seen_from(settings, host.clock, at, here);
+    let step = responder::start(seen, table, interface, name, time, id, out);
+    let next = step.host;
+    if interface < Setting::COUNT {
+        host.interfaces[interface] = flat::flat_interface(next.interfaces[interface]);
+    }
+    host.clock = next.clock;
+    let came = step.outcome;
+    let outcome = outcome::of_host(came);
+    let to = step.to;
+    FlatStep { host, outcome, to }
+}
+
+// Takes a datagram that came from an address and port to an address.
+#[no_mangle]
+pub extern "C" fn llmnr_receive(
+    mut host: FlatHost,
+    table: &[u8],
+    interface: usize,
+    from: Endpoint,
+    to: Address,
+    datagram: &[u8],
+    time: u64,
+    id: u16,
+    out: &mut [u8],
+) -> FlatStep
+    ensures { λ r. ⌜ done r (now (out .exit)) ≡ madeFlatOn host interface (receiveOf (hostOf host) (record { table = now (table .entry); interface = interface; from = from; to = to; datagram = now (datagram .entry); time = time; id = id; out = now (out .entry) })) ⌝ }
+{
+    let at = checks::slot(interface);
+    let here = host.interfaces[at];
+    let settings = flat::settings_of(host.interfaces);
+    let seen = flat::seen_from(settings, host.clock, at, here);
+    let step = responder::receive(seen, table, interface, from, to, datagram, time, id, out);
+    let next = step.host;
+    if interface < Setting::COUNT {
+        host.interfaces[interface] = flat::flat_interface(next.interfaces[interface]);
+    }
+    host.clock = next.clock;
+    let came = step.outcome;
+    let outcome = outcome::of_host(came);
+    let to = step.to;
+    FlatStep { host, outcome, to }
+}
+
+// Serves the lowest-numbered name that is due on an interface.
+#[no_mangle]
+pub extern "C" fn llmnr_tick(
+    mut host: FlatHost,
+    table: &[u8],
+    interface: usize,
+    time: u64,
+    id: u16,
+    out: &mut [u8],
+) -> FlatStep
+    ensures { λ r. ⌜ done r (now (out .exit)) ≡ madeFlatOn host interface (tickOf (hostOf host) (now (table .entry)) interface time id (now (out .entry))) ⌝ }
+{
+    let at = checks::slot(interface);
+    let here = host.interfaces[at];
+    let settings = flat::settings_of(host.interfaces);
+    let seen = flat::seen_from(settings, host.clock, at, here);
+    let step = responder::tick(seen, table, interface, time, id, out);
+    let next = step.host;
+    if interface < Setting::COUNT {
+        host.interfaces[interface] = flat::flat_interface(next.interfaces[interface]);
+    }
+    host.clock = next.clock;
+    let came = step.outcome;
+    let outcome = outcome::of_host(came);
+    let to = step.to;
+    FlatStep { host, outcome, to }
+}
+
+// Starts a lookup of a name.
+#[no_mangle]
+pub extern "C" fn llmnr_lookup_start(
+    settings: FlatSettings,
+    interface: usize,
+    name: &[u8],
+    qtype: u16,
+    time: u64,
+    id: u16,
+    out: &mut [u8],
+) -> FlatLookupStep
+    ensures { λ r. ⌜ lookupDone r (now (out .exit)) ≡ lookupMadeFlat (lookupStartOf (settings .interfaces) interface (now (name .entry)) qtype time id (now (out .entry))) ⌝ }
+{
+    let interfaces = settings.interfaces;
+    flat_lookup::flat_step(querier::start(interfaces, interface, name, qtype, time, id, out))
+}
+
+// Takes a datagram that came from an address and port to an address.
+#[no_mangle]
+pub extern "C" fn llmnr_lookup_receive(
+    lookup: FlatLookup,
+    from: Endpoint,
+    to: Address,
+    datagram: &[u8],
+    time: u64,
+    id: u16,
+    out: &mut [u8],
+) -> FlatLookupStep
+    ensures { λ r. ⌜ lookupDone r (now (out .exit)) ≡ lookupMadeFlat (lookupReceiveOf (lookupOf lookup) (record { from = from; to = to; datagram = now (datagram .entry); time = time; id = id; out = now (out .entry) })) ⌝ }
+{
+    let l = flat_lookup::lookup_of(lookup);
+    flat_lookup::flat_step(querier::receive(l, from, to, datagram, time, id, out))
+}
+
+// Serves a lookup that is due.
+#[no_mangle]
+pub extern "C" fn llmnr_lookup_tick(
+    lookup: FlatLookup,
+    time: u64,
+    id: u16,
+    out: &mut [u8],
+) -> FlatLookupStep
+    ensures { λ r. ⌜ lookupDone r (now (out .exit)) ≡ lookupMadeFlat (lookupTickOf (lookupOf lookup) time id (now (out .entry))) ⌝ }
+{
+    let l = flat_lookup::lookup_of(lookup);
+    flat_lookup::flat_step(querier::tick(l, time, id, out))
+}
+
+// Reads the record at an offset of a datagram.
+#[no_mangle]
+pub extern "C" fn llmnr_record(datagram: &[u8], at: usize) -> FlatRecord
+    ensures { λ r. ⌜ r ≡ flatRecord (recordAt (now (datagram .entry)) at) ⌝ }
+{
+    reading::record(datagram, at)
+}
+
+// Checks a name table.
+#[no_mangle]
+pub extern "C" fn llmnr_check_table(table: &[u8]) -> FlatTable
+    ensures { λ r. ⌜ r ≡ flatTable (checkTable (now (table .entry))) ⌝ }
+{
+    reading::check_table(table)
+}

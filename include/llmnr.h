@@ -1,0 +1,250 @@
+/*
+ * LLMNR (RFC 4795) for C: the calls of a host, which answers for its names, and of a lookup, which asks for one.
+ *
+ * Every call takes the state by value and gives the next state by value. The library has no state of its own: no heap, no globals, no
+ * locks, no system calls. Any number of hosts and lookups may live side by side, and calls on different ones may run at the same time.
+ *
+ * Each call is proved to do what the library's definition says on the state that the struct stands for, for every value of every field.
+ * docs/RULES.md says what that is. Rule numbers below (P3, K4) are of that page.
+ *
+ * What the caller owes:
+ * - A pointer comes with its length in octets, right after it, and is only used during the call. The octets stay the caller's.
+ *   With length 0 the pointer may be NULL. Otherwise that many octets can be read there, and written if the pointer is not const.
+ * - `out` overlaps no other octets of the same call. It has LLMNR_ROOM octets or more, or the call is refused.
+ * - `time` is in milliseconds, from one clock that never goes back, and at most LLMNR_LATEST.
+ * - `id` is fresh for each call, best drawn at random. It is used if the call begins a query of its own.
+ * - Structs are set whole, for example from `= {0}`, which is a host with all interfaces unused, and an ended lookup.
+ * - A call takes up to 6 KiB of stack.
+ *
+ * Link with libllmnr_c.a, for x86-64. It needs nothing but memcpy and memset of the C library.
+ */
+#ifndef LLMNR_H
+#define LLMNR_H
+
+#include <stdbool.h>
+#include <stddef.h>
+#include <stdint.h>
+
+#ifdef __cplusplus
+extern "C" {
+#endif
+
+#define LLMNR_INTERFACES 4  /* of a host */
+#define LLMNR_NAMES 8       /* of a name table */
+#define LLMNR_LONGEST 255   /* octets of a name, with its length octets and the final zero */
+#define LLMNR_ROOM 512      /* octets of `out` that a call needs */
+#define LLMNR_PORT 5355     /* UDP port of hosts */
+#define LLMNR_LATEST UINT64_C(281474976710655) /* the latest time, 2^48 - 1 */
+
+/* ---- addresses and settings ---- */
+
+/* family is 4 or 6. Family 4 uses the first four octets. Octets are in the order of the wire. */
+typedef struct llmnr_address {
+    uint8_t family;
+    uint8_t octets[16];
+} llmnr_address;
+
+/* An address and a UDP port, which is a plain number (host byte order). */
+typedef struct llmnr_endpoint {
+    llmnr_address address;
+    uint16_t port;
+} llmnr_endpoint;
+
+/* The settings of one interface. A family other than 4 and 6: unused. interval is 100 or 1000, in milliseconds. */
+typedef struct llmnr_setting {
+    uint8_t family;
+    uint8_t address[16];
+    uint16_t interval;
+} llmnr_setting;
+
+typedef struct llmnr_settings {
+    llmnr_setting interfaces[LLMNR_INTERFACES];
+} llmnr_settings;
+
+/* ---- what a call comes to ---- */
+
+enum {
+    LLMNR_REFUSED = 0,      /* refusal has the number; nothing has changed */
+    LLMNR_READY = 1,        /* set-up: the host is ready */
+    LLMNR_QUIET = 2,        /* tick: nothing was due */
+    LLMNR_KEPT = 3,         /* a response was heard, and the name goes on as it was */
+    LLMNR_QUERY = 4,        /* send the first len octets of out to `to` */
+    LLMNR_REPLY = 5,        /* the same */
+    LLMNR_UNIQUE = 6,       /* the host owns the name on this interface */
+    LLMNR_SHARED = 7,       /* the host uses the name, which is shared */
+    LLMNR_STOPPED = 8,      /* the host may no longer use the name on this interface */
+    LLMNR_PART = 9,         /* lookup: a response of one of several hosts; more may come */
+    LLMNR_FOUND = 10,       /* lookup: the response; the lookup has ended */
+    LLMNR_COLLECTED = 11,   /* lookup: ended, after the parts that were told before */
+    LLMNR_NO_SUCH_NAME = 12 /* lookup: ended, nobody has answered */
+};
+
+/* Why a call was refused. */
+enum {
+    LLMNR_REFUSAL_ROOM = 1,          /* out is too small */
+    LLMNR_REFUSAL_TABLE = 2,         /* the table is not good; `at` is the offset of its first bad entry */
+    LLMNR_REFUSAL_INTERFACE = 3,     /* no such interface, or it is unused */
+    LLMNR_REFUSAL_CLOCK = 4,         /* time is too large, or before the last accepted one */
+    LLMNR_REFUSAL_LENGTH = 5,        /* the datagram is too short or too long */
+    LLMNR_REFUSAL_ADDRESS = 6,       /* of another family; a query not to the group, or a response to it */
+    LLMNR_REFUSAL_OPCODE = 7,        /* not 0 */
+    LLMNR_REFUSAL_RCODE = 8,         /* of a response, not 0 */
+    LLMNR_REFUSAL_COUNTS = 9,        /* not one question, or a query with records */
+    LLMNR_REFUSAL_QUESTION = 10,     /* a bad name, or cut short; lookup start: the name given is none to look up */
+    LLMNR_REFUSAL_CLASS = 11,        /* of a query, neither 1 nor 255 */
+    LLMNR_REFUSAL_NOT_OURS = 12,     /* the table does not have the name, or it is off on this interface */
+    LLMNR_REFUSAL_STOPPED = 13,      /* the name has stopped on this interface */
+    LLMNR_REFUSAL_NOTIFICATION = 14, /* a conflict notification for a name that is not Unique, or from ourselves */
+    LLMNR_REFUSAL_UNMATCHED = 15,    /* no query of ours waits for this response */
+    LLMNR_REFUSAL_OWN = 16,          /* a response from one of our own addresses */
+    LLMNR_REFUSAL_TENTATIVE = 17,    /* lookup: the sender is still verifying the name */
+    LLMNR_REFUSAL_RECORDS = 18,      /* lookup: a bad answer record */
+    LLMNR_REFUSAL_BUSY = 19,         /* start of a name that is neither Off nor Stopped */
+    LLMNR_REFUSAL_SETTINGS = 20      /* an interface has a group address, or a bad interval */
+};
+
+/* Fields that an outcome does not use are 0. */
+typedef struct llmnr_outcome {
+    uint8_t what;     /* LLMNR_REFUSED, .. */
+    uint8_t refusal;  /* LLMNR_REFUSAL_ROOM, .. */
+    uint16_t answers; /* part, found: how many answer records the response has */
+    size_t at;        /* part, found: the offset of the first; refusal 2: of the table's bad entry */
+    size_t name;      /* the number of the name in the table, from 0 */
+    size_t len;       /* query, reply: octets of out to send */
+} llmnr_outcome;
+
+/* ---- a host ---- */
+
+/* What an interface makes of a name. Any number that is not here counts as Off. */
+enum {
+    LLMNR_STATE_OFF = 0,
+    LLMNR_STATE_VERIFYING = 1, /* sends, id, due */
+    LLMNR_STATE_UNIQUE = 2,
+    LLMNR_STATE_DEFENDING = 3, /* id, qtype, qclass, due */
+    LLMNR_STATE_STOPPED = 4,
+    LLMNR_STATE_SHARED = 5
+};
+
+/* Fields that a state does not use are not read, and are 0 in what a call gives for its interface. */
+typedef struct llmnr_name {
+    uint8_t state;
+    uint8_t sends;   /* how often the query has been sent */
+    uint16_t id;     /* of the query that waits for responses; its type and class */
+    uint16_t qtype;
+    uint16_t qclass;
+    uint64_t due;    /* when to tick */
+} llmnr_name;
+
+typedef struct llmnr_interface {
+    llmnr_setting setting;
+    llmnr_name names[LLMNR_NAMES]; /* in the table's order */
+} llmnr_interface;
+
+/* The whole state of a host. Keep the one of the last step, and hand it to the next call. clock is the last accepted time. */
+typedef struct llmnr_host {
+    llmnr_interface interfaces[LLMNR_INTERFACES];
+    uint64_t clock;
+} llmnr_host;
+
+/* The next state, the outcome, and where to send; `to` is all zero unless the outcome is a query or a reply. */
+typedef struct llmnr_step {
+    llmnr_host host;
+    llmnr_outcome outcome;
+    llmnr_endpoint to;
+} llmnr_step;
+
+/* Makes a host, with all names Off: READY, or refused (2, 4, 20). A refused one is all zero. It needs no buffer. */
+llmnr_step llmnr_set_up(const uint8_t *table, size_t table_len, llmnr_settings settings, uint64_t time, uint16_t id);
+
+/* Begins to use a name of the table on an interface. A unique one: QUERY, to be sent. A shared one: SHARED. */
+llmnr_step llmnr_start(llmnr_host host, const uint8_t *table, size_t table_len, size_t interface, size_t name, uint64_t time,
+                       uint16_t id, uint8_t *out, size_t out_len);
+
+/*
+ * Takes a datagram that came on an interface, with its source address and port and its destination address: REPLY or QUERY, to be sent;
+ * KEPT; STOPPED; or refused, for most of what other hosts say.
+ */
+llmnr_step llmnr_receive(llmnr_host host, const uint8_t *table, size_t table_len, size_t interface, llmnr_endpoint from,
+                         llmnr_address to, const uint8_t *datagram, size_t datagram_len, uint64_t time, uint16_t id, uint8_t *out,
+                         size_t out_len);
+
+/*
+ * Serves one name that is due on an interface: QUERY, to be sent; UNIQUE; or QUIET. Call it when the least `due` of the interface's
+ * Verifying and Defending names has come, and again until it is QUIET or refused. Hand over the datagrams that have come before.
+ */
+llmnr_step llmnr_tick(llmnr_host host, const uint8_t *table, size_t table_len, size_t interface, uint64_t time, uint16_t id,
+                      uint8_t *out, size_t out_len);
+
+/* ---- a lookup ---- */
+
+/* How far a lookup is. Any number that is not here counts as Ended. */
+enum {
+    LLMNR_PHASE_ENDED = 0,
+    LLMNR_PHASE_ASKING = 1,    /* sends, due */
+    LLMNR_PHASE_COLLECTING = 2 /* due */
+};
+
+typedef struct llmnr_lookup {
+    llmnr_setting settings[LLMNR_INTERFACES];
+    size_t interface;
+    uint8_t name[LLMNR_LONGEST];
+    size_t len;      /* octets of the name */
+    uint16_t qtype;
+    uint16_t id;
+    uint64_t clock;  /* the last accepted time */
+    uint8_t phase;
+    uint8_t sends;   /* how often the query has been sent */
+    uint64_t due;    /* when to tick */
+} llmnr_lookup;
+
+typedef struct llmnr_lookup_step {
+    llmnr_lookup lookup;
+    llmnr_outcome outcome;
+    llmnr_endpoint to;
+} llmnr_lookup_step;
+
+/*
+ * Asks on an interface for the records of a type (1 for A, 28 for AAAA) of a name, given as on the wire: "\6scale3", 8 octets with the
+ * final zero. QUERY, to be sent from a port of its own; or refused (1, 3, 4, 10), with an ended lookup that is all zero.
+ */
+llmnr_lookup_step llmnr_lookup_start(llmnr_settings settings, size_t interface, const uint8_t *name, size_t name_len, uint16_t qtype,
+                                     uint64_t time, uint16_t id, uint8_t *out, size_t out_len);
+
+/* Takes a datagram that came on the lookup's port: FOUND, PART, or refused. llmnr_record reads the answers. */
+llmnr_lookup_step llmnr_lookup_receive(llmnr_lookup lookup, llmnr_endpoint from, llmnr_address to, const uint8_t *datagram,
+                                       size_t datagram_len, uint64_t time, uint16_t id, uint8_t *out, size_t out_len);
+
+/* Call it when `due` has come: QUERY, to be sent again; NO_SUCH_NAME; COLLECTED; or QUIET. */
+llmnr_lookup_step llmnr_lookup_tick(llmnr_lookup lookup, uint64_t time, uint16_t id, uint8_t *out, size_t out_len);
+
+/* ---- reading ---- */
+
+/* A resource record: its data are len octets from start on, and the next record begins at next. All zero if it is not good. */
+typedef struct llmnr_record_read {
+    bool good;
+    uint16_t rtype;
+    uint16_t rclass;
+    uint32_t ttl; /* in seconds */
+    size_t start;
+    size_t len;
+    size_t next;
+} llmnr_record_read;
+
+/* Reads the record at an offset of a datagram. The first answer of a response stands at `at` of its outcome, and there are `answers`. */
+llmnr_record_read llmnr_record(const uint8_t *datagram, size_t datagram_len, size_t at);
+
+/* A good table has so many names; of another, at is the offset of the first bad entry. */
+typedef struct llmnr_table_check {
+    bool good;
+    size_t names;
+    size_t at;
+} llmnr_table_check;
+
+/* Checks a name table, as every call of a host does. */
+llmnr_table_check llmnr_check_table(const uint8_t *table, size_t table_len);
+
+#ifdef __cplusplus
+}
+#endif
+
+#endif
