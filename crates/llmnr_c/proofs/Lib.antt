@@ -1,2 +1,4 @@
 pub mod Lists
 pub mod Calls
+pub mod RoundTrip
+pub mod Stands

@@ -1,5 +1,7 @@
 -- What a call comes to, as numbers: what it says, and the values that go with it. All else is zero.
 use Prim.Native.Nat.{ℕ}
+use mathlib.Core.Bool.{cond}
+use lib.Dec.{eqb}
 use Rattle.refusal.specs.Numbers.{Report, number, number-at, numberIn}
 use Rattle.host.specs.Outcomes.{Result, refused, ready, quiet, kept, unique, shared, stopped, query, reply}
 use Rattle.lookup.specs.Outcomes as lookups
@@ -43,3 +45,29 @@ flatLookupOutcome (lookups.part at answers) = heard saysPart at answers
 flatLookupOutcome (lookups.found at answers) = heard saysFound at answers
 flatLookupOutcome lookups.collected = said saysCollected 0 0
 flatLookupOutcome lookups.no-such-name = said saysNoSuchName 0 0
+
+-- and back: what numbers tell. Refusal 2 has an offset; any other number of what a call says is a refusal.
+abbrev pub reportFrom : FlatOutcome → Report
+reportFrom o = cond (eqb (o .refusal) 2) (number-at 2 (o .at)) (number (o .refusal))
+
+abbrev pub resultFrom : FlatOutcome → Result
+resultFrom o =
+    cond (eqb (o .what) saysReady) ready
+    (cond (eqb (o .what) saysQuiet) quiet
+    (cond (eqb (o .what) saysKept) (kept (o .name))
+    (cond (eqb (o .what) saysQuery) (query (o .name) (o .len))
+    (cond (eqb (o .what) saysReply) (reply (o .len))
+    (cond (eqb (o .what) saysUnique) (unique (o .name))
+    (cond (eqb (o .what) saysShared) (shared (o .name))
+    (cond (eqb (o .what) saysStopped) (stopped (o .name))
+    (refused (reportFrom o)))))))))
+
+abbrev pub lookupResultFrom : FlatOutcome → lookups.Result
+lookupResultFrom o =
+    cond (eqb (o .what) saysQuiet) lookups.quiet
+    (cond (eqb (o .what) saysQuery) (lookups.query (o .len))
+    (cond (eqb (o .what) saysPart) (lookups.part (o .at) (o .answers))
+    (cond (eqb (o .what) saysFound) (lookups.found (o .at) (o .answers))
+    (cond (eqb (o .what) saysCollected) lookups.collected
+    (cond (eqb (o .what) saysNoSuchName) lookups.no-such-name
+    (lookups.refused (reportFrom o)))))))
