@@ -14,7 +14,7 @@
  * - `time` is in milliseconds, from one clock that never goes back, and at most LLMNR_LATEST.
  * - `id` is fresh for each call, best drawn at random. It is used if the call begins a query of its own.
  * - Structs are set whole, for example from `= {0}`, which is a host with all interfaces unused, and an ended lookup.
- * - A call takes up to 6 KiB of stack.
+ * - A call takes up to 8 KiB of stack, with the structs that it is given.
  *
  * Link with libllmnr_c.a, for x86-64. It needs nothing but memcpy and memset of the C library.
  */
