@@ -13,7 +13,8 @@
  * - `out` overlaps no other octets of the same call. It has LLMNR_ROOM octets or more, or the call is refused.
  * - `time` is in milliseconds, from one clock that never goes back, and at most LLMNR_LATEST.
  * - `id` is fresh for each call, best drawn at random. It is used if the call begins a query of its own.
- * - Structs are set whole, for example from `= {0}`, which is a host with all interfaces unused, and an ended lookup.
+ * - Every field of a struct is set, for example by `= {0}`: a host with all interfaces unused, or an ended lookup. Structs are compared field
+ *   by field, since what stands between the fields is left open.
  * - A call takes up to 8 KiB of stack, with the structs that it is given.
  *
  * Link with libllmnr_c.a, for x86-64. It needs nothing but memcpy and memset of the C library.
@@ -64,7 +65,7 @@ typedef struct llmnr_settings {
 /* ---- what a call comes to ---- */
 
 enum {
-    LLMNR_REFUSED = 0,      /* refusal has the number; nothing has changed */
+    LLMNR_REFUSED = 0,      /* refusal has the number; the state and out are as they were */
     LLMNR_READY = 1,        /* set-up: the host is ready */
     LLMNR_QUIET = 2,        /* tick: nothing was due */
     LLMNR_KEPT = 3,         /* a response was heard, and the name goes on as it was */

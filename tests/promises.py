@@ -85,7 +85,7 @@ class Source:
                 if line and not line[0].isspace():
                     head = re.match(r"impl (\w+)", line)
                     owner = head.group(1) if head else None
-                    top = re.match(r"(?:pub )?(?:fn|struct|enum|const) (\w+)", line)
+                    top = re.match(r'(?:pub )?(?:extern "C" )?(?:fn|struct|enum|const) (\w+)', line)
                     if top:
                         self.free.add(top.group(1))
                 elif owner:

@@ -2,7 +2,7 @@
 -- made flat again.
 use Prim.Native.Nat.{ℕ, zero, suc, _≤_}
 use mathlib.Core.Path.{_≡_, refl, sym, ap, _∙_}
-use mathlib.Core.List.{List, [], _∷_}
+use mathlib.Core.List.{List}
 use native.Mathlib.Omega.{arith}
 use lib.ListN.{length, getD, set, length-map}
 use lib.Seq.{set-out}
@@ -10,13 +10,13 @@ use borrow.Author.Tests.{le-ltb}
 use Rattle.octets.specs.declared.Setting.{Setting}
 use Rattle.octets.specs.Bounds.{interfaces}
 use Rattle.host.specs.State.{interfaceOf as interfaceAt}
-use Rattle.host.specs.Outcomes.{Done, resultOf, doneBy}
+use Rattle.host.specs.Outcomes.{Done, doneBy}
 use Rattle.host.specs.Laws.{SameHere, SameDone}
 use Rattle.host.specs.declared.Host.{Host}
 use Rattle.host.specs.declared.Step.{Step}
 use Rattle.checks.specs.Messages.{slotOf}
-use Rattle.llmnr_c.specs.Outcomes.{flatOutcome}
-use Rattle.llmnr_c.specs.FlatHost.{hostOf, noInterface, settingsIn, seenFrom, flatInterface, flatHostOn, doneWith, madeFlatOn, done, FlatDone}
+use Rattle.llmnr_c.specs.FlatHost.{hostOf, flatInterface, doneWith, madeFlatOn}
+use Rattle.llmnr_c.specs.Seen.{noInterface, settingsIn, seenFrom}
 use Rattle.llmnr_c.specs.declared.flat.FlatInterface.{FlatInterface}
 use Rattle.llmnr_c.specs.declared.flat.FlatHost.{FlatHost}
 use Rattle.llmnr_c.proofs.Lists.{Four, four, fours}

@@ -1,11 +1,9 @@
 -- A host as flat structs, and back; and what a call of a host gives in C.
 use Prim.Native.Nat.{ℕ}
-use mathlib.Core.List.{List, [], map}
+use mathlib.Core.List.{List, map}
 use mathlib.Core.Bool.{cond}
 use lib.ListN.{set}
 use lib.Dec.{eqb}
-use Rattle.octets.specs.declared.Setting.{Setting}
-use Rattle.octets.specs.Addresses.{unused}
 use Rattle.host.specs.declared.NameState.{NameState}
 use Rattle.host.specs.declared.NameState.the-variants.{Off, Verifying, Unique, Defending, Stopped, Shared}
 use Rattle.host.specs.declared.Name.{Name}
@@ -13,7 +11,6 @@ use Rattle.host.specs.declared.Interface.{Interface}
 use Rattle.host.specs.declared.Host.{Host}
 use Rattle.host.specs.State.{dueAt, interfaceOf as interfaceAt}
 use Rattle.host.specs.Outcomes.{Done}
-use Rattle.host.specs.SetUp.{freshHost}
 use Rattle.llmnr_c.specs.Numbers.{stateOff, stateVerifying, stateUnique, stateDefending, stateStopped, stateShared}
 use Rattle.llmnr_c.specs.Outcomes.{flatOutcome}
 use Rattle.llmnr_c.specs.declared.flat.FlatName.{FlatName}
@@ -41,19 +38,6 @@ interfaceOf f = record { setting = f .setting; names = map nameOf (f .names) }
 
 abbrev pub hostOf : FlatHost → Host
 hostOf f = record { interfaces = map interfaceOf (f .interfaces); clock = f .clock }
-
--- an interface that is not there: the zero value
-abbrev pub noInterface : FlatInterface
-noInterface = record { setting = unused; names = [] }
-
--- the settings of all interfaces
-abbrev pub settingsIn : List FlatInterface → List Setting
-settingsIn fs = map (λ f. f .setting) fs
-
--- a host as its interface with a number sees it: all settings, the clock, and the names here; the names of the other interfaces are Off
-abbrev pub seenFrom : List Setting → ℕ → ℕ → FlatInterface → Host
-seenFrom settings clock i here =
-    record { interfaces = set (freshHost settings clock .interfaces) i (interfaceOf here); clock = clock }
 
 -- ---- and back
 

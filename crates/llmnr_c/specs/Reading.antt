@@ -1,9 +1,7 @@
 -- A record of a datagram, and the check of a name table, as flat structs.
-use Prim.Native.Nat.{ℕ}
-use mathlib.Core.List.{List}
 use mathlib.Core.Bool.{true, false}
 use lib.ListN.{length}
-use Rattle.name_table.specs.Check.{Held, Checked, good, bad}
+use Rattle.name_table.specs.Check.{Checked, good, bad}
 use Rattle.message.specs.declared.RecordRead.{RecordRead}
 use Rattle.message.specs.declared.RecordRead.the-variants.{Good, Bad}
 use Rattle.llmnr_c.specs.declared.reading.FlatRecord.{FlatRecord}

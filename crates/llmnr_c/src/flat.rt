@@ -4,7 +4,8 @@ ghost use mathlib.Core.List.{map};
 ghost use Prim.Native.Nat.{_<_};
 ghost use lib.ListN.{length};
 ghost use Rattle.octets.specs.Bounds.{interfaces as mostInterfaces};
-ghost use Rattle.llmnr_c.specs.FlatHost.{nameOf, interfaceOf, bare as bareName, flatName, flatInterface, flatHost, settingsIn, seenFrom};
+ghost use Rattle.llmnr_c.specs.FlatHost.{nameOf, interfaceOf, bare as bareName, flatName, flatInterface, flatHost};
+ghost use Rattle.llmnr_c.specs.Seen.{settingsIn, seenFrom};
 use crate::outcome::FlatOutcome;
 use host::Host;
 use host::Interface;
@@ -128,7 +129,7 @@ pub(crate) fn settings_of(flat: [FlatInterface; Setting::COUNT]) -> [Setting; Se
     [p, q, r, s]
 }
 
-// The host as one interface sees it. A call depends on nothing else, and this is built quickly: the names of the others are Off.
+// The host as its interface at a place sees it: the names of the others are Off.
 pub(crate) fn seen_from(
     settings: [Setting; Setting::COUNT],
     clock: u64,

@@ -1,5 +1,8 @@
 // The calls for C. A state crosses as a flat struct, with numbers in the place of enums; include/llmnr.h has the same structs. Each call gives
 // what the library's definition gives on the state that the flat struct stands for, made flat again.
+//
+// A call of a host depends on the names of its own interface alone, and changes no others. So start, receive and tick hand the library a host
+// whose other names are Off, and write back that interface and the clock: the other interfaces stay as they were given, octet for octet.
 ghost use mathlib.Core.Path.{_≡_};
 ghost use mathlib.Core.List.{[]};
 ghost use Rattle.name_table.specs.Check.{checkTable};

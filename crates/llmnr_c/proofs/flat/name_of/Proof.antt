@@ -1,6 +1,5 @@
 -- `llmnr_c::flat::name_of` meets its contract.
 use borrow.Author.Tests.{ne-eqb}
-use borrow.Author.Needs.{needs}
 use Rattle.llmnr_c.proofs.flat.name_of.Statement.{statement}
 use Rattle.llmnr_c.proofs.flat.name_of.Tie as tie
 

@@ -1,7 +1,7 @@
 -- `llmnr_c::flat::settings_of` meets its contract.
 use mathlib.Core.Path.{_≡_, refl}
 use lib.ListN.{length}
-use Rattle.llmnr_c.specs.FlatHost.{noInterface}
+use Rattle.llmnr_c.specs.Seen.{noInterface}
 use Rattle.llmnr_c.proofs.Lists.{map-four}
 use borrow.Author.Needs.{needs}
 use Rattle.llmnr_c.proofs.flat.settings_of.Statement.{statement}

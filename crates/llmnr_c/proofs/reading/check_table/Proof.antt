@@ -1,7 +1,5 @@
 -- `llmnr_c::reading::check_table` meets its contract.
 use mathlib.Core.Path.{_≡_, refl}
-use mathlib.Core.List.{List}
-use Prim.Native.Nat.{ℕ}
 use denote.Ref.{now}
 use Rattle.name_table.specs.Check.{Checked, good, bad, checkTable}
 use Rattle.name_table.specs.Shown.{readBy, tableRead}
