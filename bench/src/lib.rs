@@ -1,0 +1,3 @@
+//! A plain LLMNR responder and querier, written by hand: the yardstick of the benchmark.
+
+pub mod plain;

@@ -1,0 +1,13 @@
+//! LLMNR (RFC 4795) without proofs: the same calls and the same rules as the proved library, as ordinary Rust with no
+//! heap. The rules stand once, over `&mut` state; `by_value` and `by_mut` are the two forms in which a program calls
+//! them.
+
+pub mod by_mut;
+pub mod by_value;
+mod host;
+mod lookup;
+mod message;
+pub mod names;
+pub mod refusal;
+pub mod state;
+pub mod table;
