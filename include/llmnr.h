@@ -126,7 +126,7 @@ enum {
     LLMNR_STATE_SHARED = 5
 };
 
-/* Fields that a state does not use are not read, and are 0 in what a call gives for its interface. */
+/* Fields that a state does not use are not read. In a name that a call has changed they are 0. */
 typedef struct llmnr_name {
     uint8_t state;
     uint8_t sends;   /* how often the query has been sent */
@@ -141,7 +141,10 @@ typedef struct llmnr_interface {
     llmnr_name names[LLMNR_NAMES]; /* in the table's order */
 } llmnr_interface;
 
-/* The whole state of a host. Keep the one of the last step, and hand it to the next call. clock is the last accepted time. */
+/*
+ * The whole state of a host. Keep the one of the last step, and hand it to the next call. clock is the last accepted time. A call changes
+ * the clock and the name that its outcome tells, and nothing else: not a field of another name, whatever it holds.
+ */
 typedef struct llmnr_host {
     llmnr_interface interfaces[LLMNR_INTERFACES];
     uint64_t clock;

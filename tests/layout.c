@@ -89,53 +89,115 @@ static int same_name(llmnr_name a, llmnr_name b)
 /* What a name becomes when it is made flat again. */
 static llmnr_name normal(llmnr_name n)
 {
-    llmnr_name m = {0};
     int verifying = n.state == LLMNR_STATE_VERIFYING, defending = n.state == LLMNR_STATE_DEFENDING;
-    m.state = n.state <= LLMNR_STATE_SHARED ? n.state : LLMNR_STATE_OFF;
-    m.sends = verifying ? n.sends : 0;
-    m.id = verifying || defending ? n.id : 0;
-    m.qtype = defending ? n.qtype : 0;
-    m.qclass = defending ? n.qclass : 0;
-    m.due = verifying || defending ? n.due : 0;
-    return m;
+    n.sends = verifying ? n.sends : 0;
+    n.id = verifying || defending ? n.id : 0;
+    n.qtype = defending ? n.qtype : 0;
+    n.qclass = defending ? n.qclass : 0;
+    n.due = verifying || defending ? n.due : 0;
+    return n;
 }
 
-/* ---- a host through calls that are refused for want of room: interface i is made flat again, and nothing else changes */
+/* ---- a host: what a call gives, against what it is to give */
 
-static void same_host(llmnr_host before, llmnr_step after, size_t at)
+static void same_host(llmnr_host a, llmnr_host b)
 {
-    CHECK(after.outcome.what == LLMNR_REFUSED && after.outcome.refusal == LLMNR_REFUSAL_ROOM);
-    CHECK(after.host.clock == before.clock);
+    CHECK(a.clock == b.clock);
     for (unsigned i = 0; i < LLMNR_INTERFACES; i++) {
-        llmnr_interface a = before.interfaces[i], b = after.host.interfaces[i];
-        CHECK(same_setting(a.setting, b.setting));
+        CHECK(same_setting(a.interfaces[i].setting, b.interfaces[i].setting));
         for (unsigned k = 0; k < LLMNR_NAMES; k++)
-            CHECK(same_name(i == at ? normal(a.names[k]) : a.names[k], b.names[k]));
+            CHECK(same_name(a.interfaces[i].names[k], b.interfaces[i].names[k]));
     }
+}
+
+/* Any values in every field; interface i is used, with an address below those of the datagrams. */
+static llmnr_host any_host(unsigned at)
+{
+    llmnr_host h;
+    memset(&h, 0, sizeof h);
+    for (unsigned i = 0; i < LLMNR_INTERFACES; i++) {
+        h.interfaces[i].setting = any_setting();
+        for (unsigned k = 0; k < LLMNR_NAMES; k++)
+            h.interfaces[i].names[k] = any_name((uint8_t)(value() >> 56));
+    }
+    h.interfaces[at].setting.family = 4;
+    h.interfaces[at].setting.address[0] = 10;
+    h.interfaces[at].setting.interval = 1000;
+    h.clock = value() >> 20;
+    return h;
+}
+
+/* A refused call gives the host back as it was, whatever stands in it. */
+static void refused_hosts(void)
+{
+    llmnr_endpoint from = {{4, {0}}, 1};
+    llmnr_address to = {4, {0}};
+    for (size_t at = 0; at < LLMNR_INTERFACES + 2; at++) {
+        llmnr_host h = any_host(at % LLMNR_INTERFACES);
+        llmnr_step s = llmnr_tick(h, NULL, 0, at, 0, 0, NULL, 0);
+        CHECK(s.outcome.refusal == LLMNR_REFUSAL_ROOM);
+        same_host(h, s.host);
+        s = llmnr_start(h, NULL, 0, at, 0, 0, 0, NULL, 0);
+        CHECK(s.outcome.refusal == LLMNR_REFUSAL_ROOM);
+        same_host(h, s.host);
+        s = llmnr_receive(h, NULL, 0, at, from, to, NULL, 0, 0, 0, NULL, 0);
+        CHECK(s.outcome.refusal == LLMNR_REFUSAL_ROOM);
+        same_host(h, s.host);
+    }
+}
+
+/* A response that a name waits for, by its ID, type and class, and that changes nothing: the name goes through the library and back. */
+static void kept_name(unsigned i, unsigned k, uint8_t state)
+{
+    uint8_t table[ENTRIES], response[QUERY], out[LLMNR_ROOM];
+    llmnr_endpoint from = {{4, {192, 0, 2, 99}}, 5355};
+    llmnr_address to = {4, {192, 0, 2, 17}};
+    llmnr_host h = any_host(i);
+    llmnr_name *n = &h.interfaces[i].names[k];
+    *n = any_name(state);
+    make_table(table);
+    make_query(response, n->id, 0x8100, k);
+    uint16_t type = state == LLMNR_STATE_VERIFYING ? 255 : n->qtype, class = state == LLMNR_STATE_VERIFYING ? 1 : n->qclass;
+    response[15] = (uint8_t)(type >> 8), response[16] = (uint8_t)type, response[17] = (uint8_t)(class >> 8), response[18] = (uint8_t)class;
+    llmnr_step s = llmnr_receive(h, table, sizeof table, i, from, to, response, sizeof response, h.clock + 1, 0, out, sizeof out);
+    CHECK(s.outcome.what == LLMNR_KEPT && s.outcome.name == k);
+    *n = normal(*n);
+    h.clock++;
+    same_host(h, s.host);
+}
+
+/* A start: the name has new values in every field, and any number that is no state's has counted as Off. */
+static void started_name(unsigned i, unsigned k, uint8_t state)
+{
+    uint8_t table[ENTRIES], out[LLMNR_ROOM];
+    llmnr_host h = any_host(i);
+    llmnr_name *n = &h.interfaces[i].names[k];
+    *n = any_name(state);
+    make_table(table);
+    llmnr_step s = llmnr_start(h, table, sizeof table, i, k, h.clock + 2, 0xABCD, out, sizeof out);
+    llmnr_name shared = {LLMNR_STATE_SHARED, 0, 0, 0, 0, 0}, verifying = {LLMNR_STATE_VERIFYING, 1, 0xABCD, 0, 0, h.clock + 1002};
+    CHECK(s.outcome.what == (k == 7 ? LLMNR_SHARED : LLMNR_QUERY) && s.outcome.name == k);
+    *n = k == 7 ? shared : verifying;
+    h.clock += 2;
+    same_host(h, s.host);
 }
 
 static void hosts(void)
 {
-    llmnr_endpoint from = {{4, {0}}, 1};
-    llmnr_address to = {4, {0}};
-    for (unsigned shift = 0; shift < 8; shift++) {
-        llmnr_host h;
-        memset(&h, 0, sizeof h);
-        for (unsigned i = 0; i < LLMNR_INTERFACES; i++) {
-            h.interfaces[i].setting = any_setting();
-            for (unsigned k = 0; k < LLMNR_NAMES; k++)
-                h.interfaces[i].names[k] = any_name((uint8_t)((i + k + shift) % 8));
-        }
-        h.clock = value();
-        for (size_t at = 0; at < LLMNR_INTERFACES + 2; at++) {
-            same_host(h, llmnr_tick(h, NULL, 0, at, 0, 0, NULL, 0), at);
-            same_host(h, llmnr_start(h, NULL, 0, at, 0, 0, 0, NULL, 0), at);
-            same_host(h, llmnr_receive(h, NULL, 0, at, from, to, NULL, 0, 0, 0, NULL, 0), at);
+    refused_hosts();
+    for (unsigned i = 0; i < LLMNR_INTERFACES; i++) {
+        for (unsigned k = 0; k < LLMNR_NAMES; k++) {
+            kept_name(i, k, LLMNR_STATE_VERIFYING);
+            kept_name(i, k, LLMNR_STATE_DEFENDING);
+            started_name(i, k, LLMNR_STATE_OFF);
+            started_name(i, k, LLMNR_STATE_STOPPED);
+            for (unsigned other = LLMNR_STATE_SHARED + 1; other < 256; other += 7)
+                started_name(i, k, (uint8_t)other);
         }
     }
 }
 
-/* ---- a lookup, the same way */
+/* ---- a lookup, through calls that are refused for want of room: it is made flat again */
 
 static llmnr_lookup any_lookup(uint8_t phase)
 {

@@ -1,4 +1,5 @@
 pub mod Lists
-pub mod Calls
 pub mod RoundTrip
+pub mod Calls
+pub mod Told
 pub mod Stands

@@ -40,14 +40,14 @@ state-back (Defending id qtype qclass timer) = refl
 state-back StoppedState = refl
 state-back Shared = refl
 
-name-back : (n : Name) → nameOf (flatName n) ≡ n
+pub name-back : (n : Name) → nameOf (flatName n) ≡ n
 name-back n = ap (λ (s : NameState). record { state = s }) (state-back (n .state))
 
 names-back : (l : List Name) → map nameOf (map flatName l) ≡ l
 names-back [] = refl
 names-back (n ∷ l) = rw (name-back n, names-back l)
 
-pub interface-back : (i : HostInterface) → interfaceOf (flatInterface i) ≡ i
+interface-back : (i : HostInterface) → interfaceOf (flatInterface i) ≡ i
 interface-back i = ap (λ (l : List Name). record { setting = i .setting; names = l }) (names-back (i .names))
 
 interfaces-back : (l : List HostInterface) → map interfaceOf (map flatInterface l) ≡ l
@@ -153,7 +153,7 @@ lookup-forth f n =
 
 -- ---- What is made flat is in normal form.
 
-name-normal : (s : NameState) → IsNormalName (flatState s)
+pub name-normal : (s : NameState) → IsNormalName (flatState s)
 name-normal Off = record { state = omega arith; sends = λ e. refl; id = λ e g. refl; qtype = λ e. refl; qclass = λ e. refl; due = λ e g. refl }
 name-normal (Verifying sends id timer) =
     record { state = omega arith; sends = λ e. absurd (e refl); id = λ e g. absurd (e refl); qtype = λ e. refl; qclass = λ e. refl; due = λ e g. absurd (e refl) }
@@ -163,7 +163,7 @@ name-normal (Defending id qtype qclass timer) =
 name-normal StoppedState = record { state = omega arith; sends = λ e. refl; id = λ e g. refl; qtype = λ e. refl; qclass = λ e. refl; due = λ e g. refl }
 name-normal Shared = record { state = omega arith; sends = λ e. refl; id = λ e g. refl; qtype = λ e. refl; qclass = λ e. refl; due = λ e g. refl }
 
-pub names-normal : (l : List Name) → AreNormalNames (map flatName l)
+names-normal : (l : List Name) → AreNormalNames (map flatName l)
 names-normal [] = tt
 names-normal (n ∷ l) = (name-normal (n .state), names-normal l)
 

@@ -1,18 +1,19 @@
 -- A host as flat structs, and back; and what a call of a host gives in C.
 use Prim.Native.Nat.{ℕ}
-use mathlib.Core.List.{List, map}
+use mathlib.Core.List.{List, [], map}
 use mathlib.Core.Bool.{cond}
-use lib.ListN.{set}
+use lib.ListN.{getD, set}
 use lib.Dec.{eqb}
+use Rattle.octets.specs.Addresses.{unused}
 use Rattle.host.specs.declared.NameState.{NameState}
 use Rattle.host.specs.declared.NameState.the-variants.{Off, Verifying, Unique, Defending, Stopped, Shared}
 use Rattle.host.specs.declared.Name.{Name}
 use Rattle.host.specs.declared.Interface.{Interface}
 use Rattle.host.specs.declared.Host.{Host}
-use Rattle.host.specs.State.{dueAt, interfaceOf as interfaceAt}
-use Rattle.host.specs.Outcomes.{Done}
+use Rattle.host.specs.State.{offName, dueAt, interfaceOf as interfaceAt}
+use Rattle.host.specs.Outcomes.{Result, Done}
 use Rattle.llmnr_c.specs.Numbers.{stateOff, stateVerifying, stateUnique, stateDefending, stateStopped, stateShared}
-use Rattle.llmnr_c.specs.Outcomes.{flatOutcome}
+use Rattle.llmnr_c.specs.Outcomes.{flatOutcome, tellsName}
 use Rattle.llmnr_c.specs.declared.flat.FlatName.{FlatName}
 use Rattle.llmnr_c.specs.declared.flat.FlatInterface.{FlatInterface}
 use Rattle.llmnr_c.specs.declared.flat.FlatHost.{FlatHost}
@@ -38,6 +39,10 @@ interfaceOf f = record { setting = f .setting; names = map nameOf (f .names) }
 
 abbrev pub hostOf : FlatHost → Host
 hostOf f = record { interfaces = map interfaceOf (f .interfaces); clock = f .clock }
+
+-- an interface that is not there: the zero value
+abbrev pub noInterface : FlatInterface
+noInterface = record { setting = unused; names = [] }
 
 -- ---- and back
 
@@ -83,9 +88,16 @@ doneWith f d =
 abbrev pub madeFlat : Done → FlatDone
 madeFlat d = doneWith (flatHost (d .host)) d
 
--- a call on interface i makes that interface flat again, and leaves the others as they were given
-abbrev pub flatHostOn : FlatHost → ℕ → Host → FlatHost
-flatHostOn f i h = record { interfaces = set (f .interfaces) i (flatInterface (interfaceAt h i)); clock = h .clock }
+-- A call on an interface, after which it is x, makes the name flat again that the outcome tells. All other names stay as they were given.
+abbrev pub withName : FlatInterface → Interface → ℕ → FlatInterface
+withName f x k = record { setting = f .setting; names = set (f .names) k (flatName (getD (x .names) k offName)) }
+
+abbrev pub interfacesAfter : List FlatInterface → ℕ → Interface → Result → List FlatInterface
+interfacesAfter fs i x r = cond (tellsName r) (set fs i (withName (getD fs i noInterface) x (flatOutcome r .name))) fs
+
+abbrev pub hostAfter : FlatHost → ℕ → Done → FlatHost
+hostAfter f i d =
+    record { interfaces = interfacesAfter (f .interfaces) i (interfaceAt (d .host) i) (d .result); clock = d .host .clock }
 
 abbrev pub madeFlatOn : FlatHost → ℕ → Done → FlatDone
-madeFlatOn f i d = doneWith (flatHostOn f i (d .host)) d
+madeFlatOn f i d = doneWith (hostAfter f i d) d

@@ -1,23 +1,14 @@
--- A host as one of its interfaces sees it. A call depends on nothing else, so this is what the calls for C hand to the library.
+-- A host as one of its interfaces sees it: the clock, all settings, and the names of that interface. A call depends on nothing else, so this is
+-- what the calls for C hand to the library: the other interfaces have the same names.
 use Prim.Native.Nat.{ℕ}
-use mathlib.Core.List.{List, [], map}
-use lib.ListN.{set}
-use Rattle.octets.specs.declared.Setting.{Setting}
-use Rattle.octets.specs.Addresses.{unused}
-use Rattle.host.specs.SetUp.{freshHost}
+use mathlib.Core.List.{List, map}
+use Rattle.host.specs.declared.Name.{Name}
+use Rattle.host.specs.declared.Interface.{Interface}
 use Rattle.host.specs.declared.Host.{Host}
-use Rattle.llmnr_c.specs.FlatHost.{interfaceOf}
 use Rattle.llmnr_c.specs.declared.flat.FlatInterface.{FlatInterface}
 
--- an interface that is not there: the zero value
-abbrev pub noInterface : FlatInterface
-noInterface = record { setting = unused; names = [] }
+abbrev pub shownWith : List Name → FlatInterface → Interface
+shownWith names f = record { setting = f .setting; names = names }
 
--- the settings of all interfaces
-abbrev pub settingsIn : List FlatInterface → List Setting
-settingsIn fs = map (λ f. f .setting) fs
-
--- all settings, the clock, and the names of the interface at a place; the names of the other interfaces are Off
-abbrev pub seenFrom : List Setting → ℕ → ℕ → FlatInterface → Host
-seenFrom settings clock at here =
-    record { interfaces = set (freshHost settings clock .interfaces) at (interfaceOf here); clock = clock }
+abbrev pub seenWith : List FlatInterface → ℕ → List Name → Host
+seenWith fs clock names = record { interfaces = map (shownWith names) fs; clock = clock }

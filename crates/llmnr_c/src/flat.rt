@@ -1,11 +1,11 @@
 // The state of a host as flat structs, and back. Any flat value stands for some state.
 ghost use mathlib.Core.Path.{_≡_};
 ghost use mathlib.Core.List.{map};
-ghost use Prim.Native.Nat.{_<_};
-ghost use lib.ListN.{length};
+ghost use lib.ListN.{length, getD, set};
+ghost use Rattle.host.specs.State.{offName};
 ghost use Rattle.octets.specs.Bounds.{interfaces as mostInterfaces};
-ghost use Rattle.llmnr_c.specs.FlatHost.{nameOf, interfaceOf, bare as bareName, flatName, flatInterface, flatHost};
-ghost use Rattle.llmnr_c.specs.Seen.{settingsIn, seenFrom};
+ghost use Rattle.llmnr_c.specs.FlatHost.{nameOf, bare as bareName, flatName, flatInterface, flatHost, withName};
+ghost use Rattle.llmnr_c.specs.Seen.{shownWith, seenWith};
 use crate::outcome::FlatOutcome;
 use host::Host;
 use host::Interface;
@@ -90,7 +90,7 @@ fn name_of(flat: FlatName) -> Name
     Name { state }
 }
 
-fn names_of(flat: [FlatName; Name::COUNT]) -> [Name; Name::COUNT]
+pub(crate) fn names_of(flat: [FlatName; Name::COUNT]) -> [Name; Name::COUNT]
     ensures { λ r. ⌜ r ≡ map nameOf flat ⌝ }
 {
     let a = name_of(flat[0]);
@@ -104,44 +104,31 @@ fn names_of(flat: [FlatName; Name::COUNT]) -> [Name; Name::COUNT]
     [a, b, c, d, e, f, g, h]
 }
 
-fn interface_of(flat: FlatInterface) -> Interface
-    ensures { λ r. ⌜ r ≡ interfaceOf flat ⌝ }
+// An interface with its own settings and some names.
+fn shown(flat: FlatInterface, names: [Name; Name::COUNT]) -> Interface
+    ensures { λ r. ⌜ r ≡ shownWith names flat ⌝ }
 {
-    let held = flat.names;
-    let names = names_of(held);
     let setting = flat.setting;
     Interface { setting, names }
 }
 
-// The settings of all interfaces; there are four.
-pub(crate) fn settings_of(flat: [FlatInterface; Setting::COUNT]) -> [Setting; Setting::COUNT]
-    ensures { λ r. ⌜ r ≡ settingsIn flat ⌝ }
-    ensures { λ r. ⌜ length r ≡ mostInterfaces ⌝ }
-{
-    let a = flat[0];
-    let b = flat[1];
-    let c = flat[2];
-    let d = flat[3];
-    let p = a.setting;
-    let q = b.setting;
-    let r = c.setting;
-    let s = d.setting;
-    [p, q, r, s]
-}
-
-// The host as its interface at a place sees it: the names of the others are Off.
-pub(crate) fn seen_from(
-    settings: [Setting; Setting::COUNT],
+// The host as an interface with these names sees it; it has four interfaces.
+pub(crate) fn seen(
+    flat: [FlatInterface; Setting::COUNT],
     clock: u64,
-    at: usize,
-    here: FlatInterface,
+    names: [Name; Name::COUNT],
 ) -> Host
-    requires { ⌜ at < mostInterfaces ⌝ }
-    ensures { λ r. ⌜ r ≡ seenFrom settings clock at here ⌝ }
+    ensures { λ r. ⌜ r ≡ seenWith flat clock names ⌝ }
+    ensures { λ r. ⌜ length (r .interfaces) ≡ mostInterfaces ⌝ }
 {
-    let mut host = Host::fresh(settings, clock);
-    host.interfaces[at] = interface_of(here);
-    host
+    let a = shown(flat[0], names);
+    let b = shown(flat[1], names);
+    let c = shown(flat[2], names);
+    let d = shown(flat[3], names);
+    Host {
+        interfaces: [a, b, c, d],
+        clock: clock,
+    }
 }
 
 // A state without data.
@@ -205,7 +192,7 @@ fn flat_names(names: [Name; Name::COUNT]) -> [FlatName; Name::COUNT]
     [a, b, c, d, e, f, g, h]
 }
 
-pub(crate) fn flat_interface(interface: Interface) -> FlatInterface
+fn flat_interface(interface: Interface) -> FlatInterface
     ensures { λ r. ⌜ r ≡ flatInterface interface ⌝ }
 {
     let held = interface.names;
@@ -231,4 +218,37 @@ pub(crate) fn flat_host(host: Host) -> FlatHost
     let interfaces = flat_interfaces(held);
     let clock = host.clock;
     FlatHost { interfaces, clock }
+}
+
+// The name with a number; Off where there is none.
+fn name_at(names: [Name; Name::COUNT], k: usize) -> Name
+    ensures { λ r. ⌜ r ≡ getD names k offName ⌝ }
+{
+    if k < Name::COUNT {
+        return names[k];
+    }
+    Name {
+        state: NameState::Off,
+    }
+}
+
+fn put_name(mut names: [FlatName; Name::COUNT], k: usize, name: FlatName) -> [FlatName; Name::COUNT]
+    ensures { λ r. ⌜ r ≡ set names k name ⌝ }
+{
+    if k < Name::COUNT {
+        names[k] = name;
+    }
+    names
+}
+
+// A flat interface in which a name is made flat again, as it is in an interface.
+pub(crate) fn with_name(flat: FlatInterface, interface: Interface, k: usize) -> FlatInterface
+    ensures { λ r. ⌜ r ≡ withName flat interface k ⌝ }
+{
+    let held = interface.names;
+    let name = flat_name(name_at(held, k));
+    let kept = flat.names;
+    let names = put_name(kept, k, name);
+    let setting = flat.setting;
+    FlatInterface { setting, names }
 }

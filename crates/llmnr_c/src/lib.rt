@@ -1,8 +1,9 @@
 // The calls for C. A state crosses as a flat struct, with numbers in the place of enums; include/llmnr.h has the same structs. Each call gives
 // what the library's definition gives on the state that the flat struct stands for, made flat again.
 //
-// A call of a host depends on the names of its own interface alone, and changes no others. So start, receive and tick hand the library a host
-// whose other names are Off, and write back that interface and the clock: the other interfaces stay as they were given, octet for octet.
+// A call of a host depends on the names of its own interface alone, and changes at most the one that its outcome tells. So start, receive
+// and tick hand the library a host in which every interface has these names, and write back that name and the clock: all else stays as it
+// was given, octet for octet.
 ghost use mathlib.Core.Path.{_≡_};
 ghost use mathlib.Core.List.{[]};
 ghost use Rattle.name_table.specs.Check.{checkTable};
@@ -30,7 +31,6 @@ use flat_lookup::FlatLookup;
 use flat_lookup::FlatLookupStep;
 use octets::Address;
 use octets::Endpoint;
-use octets::Setting;
 use reading::FlatRecord;
 use reading::FlatTable;
 
@@ -63,16 +63,17 @@ pub extern "C" fn llmnr_start(
 {
     let at = checks::slot(interface);
     let here = host.interfaces[at];
-    let settings = flat::settings_of(host.interfaces);
-    let seen = flat::seen_from(settings, host.clock, at, here);
+    let held = here.names;
+    let seen = flat::seen(host.interfaces, host.clock, flat::names_of(held));
     let step = responder::start(seen, table, interface, name, time, id, out);
     let next = step.host;
-    if interface < Setting::COUNT {
-        host.interfaces[interface] = flat::flat_interface(next.interfaces[interface]);
-    }
-    host.clock = next.clock;
     let came = step.outcome;
     let outcome = outcome::of_host(came);
+    if outcome::tells_name(came, interface) {
+        let after = next.interfaces[at];
+        host.interfaces[at] = flat::with_name(here, after, outcome.name);
+    }
+    host.clock = next.clock;
     let to = step.to;
     FlatStep { host, outcome, to }
 }
@@ -94,16 +95,17 @@ pub extern "C" fn llmnr_receive(
 {
     let at = checks::slot(interface);
     let here = host.interfaces[at];
-    let settings = flat::settings_of(host.interfaces);
-    let seen = flat::seen_from(settings, host.clock, at, here);
+    let held = here.names;
+    let seen = flat::seen(host.interfaces, host.clock, flat::names_of(held));
     let step = responder::receive(seen, table, interface, from, to, datagram, time, id, out);
     let next = step.host;
-    if interface < Setting::COUNT {
-        host.interfaces[interface] = flat::flat_interface(next.interfaces[interface]);
-    }
-    host.clock = next.clock;
     let came = step.outcome;
     let outcome = outcome::of_host(came);
+    if outcome::tells_name(came, interface) {
+        let after = next.interfaces[at];
+        host.interfaces[at] = flat::with_name(here, after, outcome.name);
+    }
+    host.clock = next.clock;
     let to = step.to;
     FlatStep { host, outcome, to }
 }
@@ -122,16 +124,17 @@ pub extern "C" fn llmnr_tick(
 {
     let at = checks::slot(interface);
     let here = host.interfaces[at];
-    let settings = flat::settings_of(host.interfaces);
-    let seen = flat::seen_from(settings, host.clock, at, here);
+    let held = here.names;
+    let seen = flat::seen(host.interfaces, host.clock, flat::names_of(held));
     let step = responder::tick(seen, table, interface, time, id, out);
     let next = step.host;
-    if interface < Setting::COUNT {
-        host.interfaces[interface] = flat::flat_interface(next.interfaces[interface]);
-    }
-    host.clock = next.clock;
     let came = step.outcome;
     let outcome = outcome::of_host(came);
+    if outcome::tells_name(came, interface) {
+        let after = next.interfaces[at];
+        host.interfaces[at] = flat::with_name(here, after, outcome.name);
+    }
+    host.clock = next.clock;
     let to = step.to;
     FlatStep { host, outcome, to }
 }

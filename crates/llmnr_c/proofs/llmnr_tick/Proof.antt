@@ -1,16 +1,20 @@
 -- `llmnr_c::llmnr_tick` meets its contract.
 use mathlib.Core.Path.{_≡_, _∙_, ap}
-use mathlib.Core.Logic.{⊎-elim}
+use mathlib.Core.Logic.{⊎-map}
 use mathlib.Core.List.{List}
 use Prim.Native.Nat.{ℕ}
-use lib.ListN.{set}
+use lib.ListN.{length, getD, set}
+use Rattle.octets.specs.Bounds.{interfaces}
 use Rattle.host.specs.State.{interfaceOf as interfaceAt}
+use Rattle.host.specs.Outcomes.{resultOf}
 use Rattle.host.specs.Laws.{SameHere}
 use Rattle.host.proofs.Laws.{tick-same}
-use Rattle.llmnr_c.specs.FlatHost.{hostOf, flatInterface}
+use Rattle.host.specs.declared.Step.{Step}
+use Rattle.llmnr_c.specs.FlatHost.{hostOf, noInterface, withName, interfacesAfter}
+use Rattle.llmnr_c.specs.declared.outcome.FlatOutcome.{FlatOutcome}
 use Rattle.llmnr_c.specs.declared.flat.FlatInterface.{FlatInterface}
 use Rattle.llmnr_c.specs.declared.flat.FlatHost.{FlatHost}
-use Rattle.llmnr_c.proofs.Calls.{sees, nothing-there, flattens}
+use Rattle.llmnr_c.proofs.Calls.{size, sees, written, flattens}
 use borrow.Author.Needs.{needs}
 use Rattle.llmnr_c.proofs.llmnr_tick.Statement.{statement}
 use Rattle.llmnr_c.proofs.llmnr_tick.Tie as tie
@@ -24,43 +28,47 @@ mul-here c = search needs
 element-copy-out-here : tie.Need-element-copy-out-here
 element-copy-out-here c = search needs
 
-settings-of-requires : tie.Need-settings-of-requires
-settings-of-requires c κs = search needs
+names-of-requires : tie.Need-names-of-requires
+names-of-requires c κs = search needs
 
-seen-from-requires : tie.Need-seen-from-requires
-seen-from-requires c κs = search needs
+seen-requires : tie.Need-seen-requires
+seen-requires c κs = search needs
 
 tick-requires : tie.Need-tick-requires
 tick-requires c κs = search needs
 
-mul-flat-interface : tie.Need-mul-flat-interface
-mul-flat-interface c = search needs
-
-element-copy-out-flat-interface : tie.Need-element-copy-out-flat-interface
-element-copy-out-flat-interface c = search needs
-
-flat-interface-requires : tie.Need-flat-interface-requires
-flat-interface-requires c κs = search needs
-
-mul-t31 : tie.Need-mul-t31
-mul-t31 c = search needs
-
-element-set-from-host : tie.Need-element-set-from-host
-element-set-from-host c = search needs
-
 of-host-requires : tie.Need-of-host-requires
 of-host-requires c κs = search needs
+
+tells-name-requires : tie.Need-tells-name-requires
+tells-name-requires c κs = search needs
+
+mul-after : tie.Need-mul-after
+mul-after c = search needs
+
+element-copy-out-after : tie.Need-element-copy-out-after
+element-copy-out-after c = search needs
+
+with-name-requires : tie.Need-with-name-requires
+with-name-requires c κs = search needs
+
+mul-t28 : tie.Need-mul-t28
+mul-t28 c =
+    let place = c .before .before .before .before .before .before .before .before .before .before .before .before .before .before .before .slot .ensures .1 in
+    search needs
+
+element-set-from-host : tie.Need-element-set-from-host
+element-set-from-host c =
+    let place = c .before .before .before .before .before .before .before .before .before .before .before .before .before .before .before .slot .ensures .1 in
+    search needs
 
 same-length : tie.Need-same-length
 same-length c = search needs
 
--- what the call is given; what its interface sees; and that interface is written back, if it is one
+-- what the call is given, what its interface sees, and what the library gives
 module _ (c : tie.Joined1) where
-  abbrev seen : tie.After-seen-from
-  seen = c .before .before .before .before .before .before
-
   abbrev given : tie.Start
-  given = seen .before .before .before .before .before .before .before
+  given = c .before .before .before .before .before .before .before .before .before .before .before .before .before .before .before .before
 
   abbrev host : FlatHost
   host = given .args .t1
@@ -68,31 +76,42 @@ module _ (c : tie.Joined1) where
   abbrev i : ℕ
   i = given .args .interface
 
-  same-here : SameHere (hostOf host) (seen .seen-from .result) i
-  same-here =
-      let all = seen .before .settings-of .ensures in
-      sees host i (all .0) (all .1) _ (seen .before .before .before .before .slot .ensures .0) (seen .seen-from .ensures)
+  abbrev seen : tie.After-seen
+  seen = c .before .before .before .before .before .before .before .before
+
+  abbrev at : tie.After-slot
+  at = c .before .before .before .before .before .before .before .before .before .before .before .before .before
+
+  abbrev step : Step
+  step = c .before .before .before .before .before .before .tick .result
+
+  four : length (host .interfaces) ≡ interfaces
+  four = size (host .interfaces) (host .clock) _ (seen .seen .ensures .0) (seen .seen .ensures .1)
+
+  same-here : SameHere (hostOf host) (seen .seen .result) i
+  same-here = sees host i _ four (at .slot .ensures .0) (seen .seen .ensures .0) (seen .before .names-of .ensures)
+
+  -- the name that is told is written back
+  abbrev place : ℕ
+  place = at .slot .result
 
   abbrev back : FlatInterface → List FlatInterface
-  back x = set (host .interfaces) i x
+  back x = set (host .interfaces) place x
 
-  abbrev next : FlatInterface
-  next = flatInterface (interfaceAt (c .before .before .before .before .tick .result .host) i)
+  abbrev named : FlatOutcome → List FlatInterface
+  named o = back (withName (getD (host .interfaces) place noInterface) (interfaceAt (step .host) place) (o .name))
 
-  written : c .if1 .host .interfaces ≡ back next
-  written =
-      let all = seen .before .settings-of .ensures in
-      ⊎-elim {C = c .if1 .host .interfaces ≡ back next}
-      (λ w. ap (λ (h : FlatHost). h .interfaces) (w .3) ∙ ap back (w .2 .ensures))
-      (λ w. ap (λ (h : FlatHost). h .interfaces) (w .1) ∙ nothing-there host i (all .0) (all .1) next (w .0 .left))
-      (c .if1 .came)
+  kept : c .if1 .host .interfaces ≡ interfacesAfter (host .interfaces) i (interfaceAt (step .host) i) (resultOf (step .outcome))
+  kept =
+      written host i place four (at .slot .ensures .0) (step .host) (resultOf (step .outcome)) _ _ (c .before .tells-name .ensures)
+      (⊎-map (λ w. (w .0 .taken, ap (λ (h : FlatHost). h .interfaces) (w .3) ∙ ap back (w .2 .ensures) ∙ ap named (c .before .before .of-host .ensures)))
+      (λ w. (w .0 .left, ap (λ (h : FlatHost). h .interfaces) (w .1))) (c .if1 .came))
 
 returns : tie.Need-returns
 returns c =
-    let j = c .before .before in
-    let done = c .before .before .before .before .before .before .tick in
-    rw (c .before .of-host .ensures)
-    (flattens (host j) (i j) (done .result) _ (tick-same _ _ _ _ _ _ _ (same-here j)) (done .ensures) (written j))
+    let j = c .before in
+    rw (c .before .before .before .of-host .ensures)
+    (flattens (host j) (i j) (step j) _ _ (tick-same _ _ _ _ _ _ _ (same-here j)) (c .before .before .before .before .before .before .before .tick .ensures) (kept j))
 
 pub llmnr-tick-spec : {M : Type 1} → statement M
 llmnr-tick-spec =
@@ -101,14 +120,15 @@ llmnr-tick-spec =
     slot-requires
     mul-here
     element-copy-out-here
-    settings-of-requires
-    seen-from-requires
+    names-of-requires
+    seen-requires
     tick-requires
-    mul-flat-interface
-    element-copy-out-flat-interface
-    flat-interface-requires
-    mul-t31
-    element-set-from-host
     of-host-requires
+    tells-name-requires
+    mul-after
+    element-copy-out-after
+    with-name-requires
+    mul-t28
+    element-set-from-host
     same-length
     returns)
