@@ -11,7 +11,9 @@ passed=0
 failed=0
 export LC_ALL=C
 
+built='built before'
 if [ -z "${PROGRAMS:-}" ]; then
+    built='built without a warning'
     PROGRAMS=$root/target/programs
     "$root/programs/build.sh" >"$work/build" 2>&1 || { cat "$work/build"; echo 'programs: not built'; exit 1; }
 fi
@@ -194,5 +196,5 @@ ends 2 'ask: 65536: not a type; A, AAAA, PTR, ANY or a number' ask -i none.0 a 6
 ends 2 'ask: 1x: not a type; A, AAAA, PTR, ANY or a number' ask -i none.0 a 1x
 ends 2 'ask: none.0: no such network interface' ask -i none.0 --interval 1000 a 65535
 
-printf 'programs: built without a warning; %d cases as they should be, %d not\n' "$passed" "$failed"
+printf 'programs: %s; %d cases as they should be, %d not\n' "$built" "$passed" "$failed"
 [ "$passed" -gt 0 ] && [ "$failed" -eq 0 ]
