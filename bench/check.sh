@@ -1,11 +1,11 @@
 #!/usr/bin/env bash
 # Holds the plain responder, in both its forms, against an independent program on random call files: every line must be the same.
-# usage: check.sh [FILES] [FIRST SEED]        SECOND: the other program (../second/target/release/second)
+# usage: check.sh [FILES] [FIRST SEED]        SECOND: the other program (../target/second/release/second)
 set -eu
 cd "$(dirname "$0")"
 files=${1:-2000} first=${2:-0}
-second=${SECOND:-../second/target/release/second}
-[ -x "$second" ] || { echo "no program at $second: build it, or name it in SECOND"; exit 2; }
+second=${SECOND:-../target/second/release/second}
+[ -x "$second" ] || { echo "no program at $second: second/run help builds it; or name one in SECOND"; exit 2; }
 cargo build --release --quiet --bin plain_calls
 plain=${CARGO_TARGET_DIR:-target}/release/plain_calls
 work=$(mktemp -d)
