@@ -5,7 +5,7 @@
 # found, and docs/link.svg is the picture that the second program draws.
 set -eu
 cd "$(dirname "$0")/.."
-PATH=$PATH:$HOME/.cargo/bin
+PATH=$PATH:${HOME:-/root}/.cargo/bin
 
 cargo test --release --offline --quiet --manifest-path second/Cargo.toml --target-dir target/second
 second/run compare
