@@ -4,6 +4,8 @@ pub mod NameLaws
 pub mod OpeningLaws
 pub mod ContestLaws
 pub mod TurnLaws
+pub mod ServedLaws
 pub mod StartLaws
 pub mod TickLaws
+pub mod HeardLaws
 pub mod ReceiveLaws

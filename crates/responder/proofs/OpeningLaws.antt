@@ -1,5 +1,5 @@
 -- What the opening in the code says of a call: the checks 1 to 4 refuse it, or it is made well.
-use Prim.Native.Nat.{ℕ, _<_, min}
+use Prim.Native.Nat.{ℕ, _<_, _≤_, min}
 use mathlib.Core.Path.{_≡_, refl, sym, ap, _∙_, subst}
 use mathlib.Core.List.{List}
 use mathlib.Core.Bool.{true, false, not}
@@ -7,7 +7,7 @@ use native.Mathlib.Omega.{arith}
 use lib.ListN.{length}
 use lib.Dec.{ltb}
 use Rattle.octets.specs.Bounds.{interfaces}
-use Rattle.octets.proofs.Tests.{split}
+use Rattle.octets.proofs.Tests.{split, not-below, neither}
 use Rattle.refusal.specs.Numbers.{reportOf}
 use Rattle.refusal.specs.Checks.{Checks, pass, Verdict, refused, passed, verdict, Gives, next, stop}
 use Rattle.refusal.proofs.Checks.{clear, gives, stays}
@@ -18,7 +18,7 @@ use Rattle.name_table.specs.Check.{Held, Checked, good, bad, isBad, badAt, name
 use Rattle.name_table.specs.Shown.{namesOf, shown}
 use Rattle.name_table.specs.declared.TableRead.{TableRead}
 use Rattle.name_table.specs.declared.Table.{Table}
-use Rattle.host.specs.Bounds.{room}
+use Rattle.host.specs.Bounds.{room, latest}
 use Rattle.host.specs.State.{settingOf}
 use Rattle.host.specs.Early.{early, firstChecks}
 use Rattle.host.specs.ExactlyWhen.{CalledWell}
@@ -60,6 +60,17 @@ module _ (size : ℕ) (table : List ℕ) (i family clock time : ℕ) where
       let a : badAt (checkTable table) ≡ at = ap badAt e in
       let g : Gives checks (refused (reportOf (BadTable at))) = rw (← a) (next l (stop (ap isBad e))) in
       refused-so o (BadTable at) f g
+
+-- a call that is not refused is made in the clock's range
+module _ (size : ℕ) (table : List ℕ) (i family clock time : ℕ) (o : Opening) (e : openedBy o table ≡ opening size table i family clock time) where
+  pub in-range : o .refused ≡ false → time ≤ latest
+  unfolding opening
+  in-range b = go (verdict (checks size table i family clock time)) refl (rw b at e)
+    where
+      go : (v : Verdict) → verdict (checks size table i family clock time) ≡ v → opens (namesOf table (o .table)) ≡ openedIf v table → time ≤ latest
+      go (refused t) p q = let z : _≡_ {A = ℕ} 0 1 = cc in absurd (omega arith)
+      go passed p q =
+          not-below latest time .0 (neither (ltb latest time) (ltb time clock) .0 (clear (checks size table i family clock time) p .1 .1 .1 .0) .0)
 
 -- ---- what that says of a call
 

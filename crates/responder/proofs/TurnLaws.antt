@@ -1,11 +1,12 @@
 -- Laws for what a start or a tick makes of a name.
-use Prim.Native.Nat.{ℕ, suc, _+_, _-_, _<_, _≤_}
-use mathlib.Core.Path.{_≡_, refl, sym, ap}
+use Prim.Native.Nat.{ℕ, zero, suc, _+_, _-_, _<_, _≤_}
+use mathlib.Core.Path.{_≡_, refl, sym, ap, _∙_}
 use mathlib.Core.List.{List}
 use mathlib.Core.Bool.{true, false, cond}
 use native.Mathlib.Omega.{arith}
 use lib.ListN.{getD}
 use lib.Dec.{ltb}
+use borrow.Author.Tests.{lt-ltb, le-ltb, ltb-false}
 use Rattle.octets.proofs.Tests.{split}
 use Rattle.name_table.specs.Check.{Checked, good, noName, namesIn, checkTable}
 use Rattle.name_table.specs.Shown.{namesOf}
@@ -14,7 +15,7 @@ use Rattle.host.specs.Bounds.{sendsInAll}
 use Rattle.host.specs.State.{offName, settingOf, withState}
 use Rattle.host.specs.Outcomes.{Result, silent, unique}
 use Rattle.host.specs.Asking.{checkQuery, asking}
-use Rattle.host.specs.Tick.{isDue, due, none, dueFrom, serve}
+use Rattle.host.specs.Tick.{isDue, Due, due, none, dueFrom, serve}
 use Rattle.host.specs.declared.Name.{Name}
 use Rattle.host.specs.declared.NameState.{NameState}
 use Rattle.host.specs.declared.NameState.the-variants.{Off, Verifying, Unique, Defending, Stopped, Shared}
@@ -42,6 +43,37 @@ pub due-all : (n : ℕ) (names : List Name) (time : ℕ) → dueFrom n names 0 t
 due-all n names time =
     let z : n - 0 ≡ n = omega arith in
     rw z
+
+-- Among fewer names it is the same one, if it is among them.
+abbrev upto : ℕ → Due → Due
+upto n none = none
+upto n (due k) = cond (ltb k n) (due k) none
+
+module _ (names : List Name) (time : ℕ) where
+  -- none is found before the first that is looked at
+  before : (m i n : ℕ) → n ≤ i → upto n (dueFrom m names i time) ≡ none
+  unfolding dueFrom
+  before zero i n l = refl
+  before (suc m) i n l =
+      split (isDue (getD names i offName .state) time) (λ p. rw (p, le-ltb i n l))
+      (λ p. rw p (before m (i + 1) n (omega (arith, l))))
+
+  shorter : (n m i : ℕ) → n ≤ m → dueFrom n names i time ≡ upto (i + n) (dueFrom m names i time)
+  unfolding dueFrom
+  shorter zero m i l = sym (before m i (i + 0) (omega arith))
+  shorter (suc n) zero i l = absurd (omega (arith, l))
+  shorter (suc n) (suc m) i l =
+      let s : i + suc n ≡ i + 1 + n = omega arith in
+      let b : i < i + suc n = omega arith in
+      split (isDue (getD names i offName .state) time) (λ p. rw (p, lt-ltb i (i + suc n) b))
+      (λ p. rw (p, s) (shorter n m (i + 1) (omega (arith, l))))
+
+  pub due-among : (n m k : ℕ) → n ≤ m → dueFrom m names 0 time ≡ cond (ltb k m) (due k) none → dueFrom n names 0 time ≡ cond (ltb k n) (due k) none
+  due-among n m k l e =
+      let z : 0 + n ≡ n = omega arith in
+      shorter n m 0 l
+      ∙ rw (e, z)
+      (split (ltb k m) (λ p. rw p) (λ p. rw (p, le-ltb k n (omega (arith, l, ltb-false k m p)))))
 
 -- ---- what a call gives
 

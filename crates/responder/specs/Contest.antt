@@ -15,10 +15,11 @@ use Rattle.refusal.specs.declared.Refusal.the-variants as refusal
 use Rattle.message.specs.declared.Header.{Header}
 use Rattle.message.specs.declared.Question.{Question}
 use Rattle.message.specs.Query.{queryOctets}
-use Rattle.host.specs.State.{verifying, is, timerFrom}
+use Rattle.host.specs.State.{offName, verifying, is}
 use Rattle.host.specs.Outcomes.{Result, resultOf, query, stopped, kept, nowhere}
 use Rattle.host.specs.Receive.{awaits}
 use Rattle.host.specs.declared.Name.{Name}
+use Rattle.host.specs.declared.Timer.{Timer}
 use Rattle.host.specs.declared.NameState.{NameState}
 use Rattle.host.specs.declared.NameState.the-variants.{Off, Verifying, Unique, Defending, Stopped, Shared}
 use Rattle.responder.specs.declared.contest.Judged.{Judged}
@@ -64,11 +65,11 @@ isLost state tentative source own = is verifying state and not tentative or belo
 unfoldable pub ending : NameState → Header → Address → Setting → Ending
 ending state x source own = cond (x .response) (cond (isLost state (x .tentative) source own) Lost Kept) Defended
 
--- the name's next state
-abbrev pub nextName : Ending → Name → ℕ → Question → Setting → ℕ → Name
-nextName Defended name id q own time = record { state = Defending id (q .qtype) (q .class) (timerFrom own time) }
-nextName Lost name id q own time = record { state = Stopped }
-nextName Kept name id q own time = name
+-- the name's new state, with a timer that is started now; Off where it has none
+abbrev pub nextName : Ending → ℕ → Question → Timer → Name
+nextName Defended id q timer = record { state = Defending id (q .qtype) (q .class) timer }
+nextName Lost id q timer = record { state = Stopped }
+nextName Kept id q timer = offName
 
 -- what is told, where it goes, and every octet of the buffer
 pub record Telling : Type 0 where

@@ -1,3 +1,5 @@
 pub mod Contest
+pub mod Heard
 pub mod Opening
+pub mod Served
 pub mod Turn

@@ -1,18 +1,16 @@
 // What a datagram for a name calls for, by the name's state: a refusal, an answer, or a contest for the name, and how that ends.
 ghost use mathlib.Core.Path.{_≡_};
 ghost use mathlib.Core.Bool.{not};
-ghost use Prim.Native.Nat.{_≤_};
 ghost use lib.Dec.{eqb};
 ghost use Rattle.octets.specs.Tests.{_and_};
 ghost use Rattle.octets.specs.Addresses.{isOurs};
-ghost use Rattle.host.specs.Bounds.{latest};
-ghost use Rattle.host.specs.State.{shared, verifying, is, settingsOf};
+ghost use Rattle.host.specs.State.{shared, verifying, is};
 ghost use Rattle.host.specs.Receive.{awaits};
 ghost use Rattle.responder.specs.Contest.{whyUnknown, whyOwn, queryJudged, stateJudged, judged, isLost, ending, nextName, told, toldBy};
-use host::Interface;
 use host::Name;
 use host::NameState;
 use host::Outcome;
+use host::Timer;
 use message::Header;
 use message::Question;
 use message::ResourceRecord;
@@ -140,29 +138,22 @@ fn judge_state(state: NameState, header: Header, question: Question) -> Judged
     judge_query(state, header.conflict)
 }
 
-// Whether an address is one of the host's own.
-fn is_own(interfaces: [Interface; Setting::COUNT], source: Address) -> bool
-    ensures { λ r. ⌜ r ≡ isOurs (settingsOf interfaces) source ⌝ }
-{
-    octets::is_ours(Interface::settings(interfaces), source)
-}
-
 // The same, where a contest that comes from ourselves is refused. The source is looked at only then.
 pub(crate) fn judge(
     name: Name,
     header: Header,
     question: Question,
-    interfaces: [Interface; Setting::COUNT],
+    settings: [Setting; Setting::COUNT],
     source: Address,
 ) -> Judged
-    ensures { λ r. ⌜ r ≡ judged (name .state) header question (isOurs (settingsOf interfaces) source) ⌝ }
+    ensures { λ r. ⌜ r ≡ judged (name .state) header question (isOurs settings source) ⌝ }
 {
     let state = name.state;
     let first = judge_state(state, header, question);
     let Judged::Contest = first else {
         return first;
     };
-    if is_own(interfaces, source) {
+    if octets::is_ours(settings, source) {
         return Judged::Refused(own(header.response));
     }
     first
@@ -213,34 +204,25 @@ pub(crate) fn settle(name: Name, header: Header, source: Address, setting: Setti
     Ending::Defended
 }
 
-// The name's next state: Defending with its timer started now, Stopped, or what it was.
-pub(crate) fn next(
-    ended: Ending,
-    name: Name,
-    id: u16,
-    question: Question,
-    setting: Setting,
-    time: u64,
-) -> Name
-    requires { ⌜ time ≤ latest ⌝ }
-    ensures { λ r. ⌜ r ≡ nextName ended name id question setting time ⌝ }
+// The name's new state: Defending with its timer, or Stopped; Off where it has none.
+pub(crate) fn next(ended: Ending, id: u16, question: Question, timer: Timer) -> Name
+    ensures { λ r. ⌜ r ≡ nextName ended id question timer ⌝ }
 {
     match ended {
-        Ending::Defended => {
-            let timer = crate::turn::timer(setting, time);
-            Name {
-                state: NameState::Defending {
-                    id: id,
-                    qtype: question.qtype,
-                    qclass: question.class,
-                    timer: timer,
-                },
-            }
-        }
+        Ending::Defended => Name {
+            state: NameState::Defending {
+                id: id,
+                qtype: question.qtype,
+                qclass: question.class,
+                timer: timer,
+            },
+        },
         Ending::Lost => Name {
             state: NameState::Stopped,
         },
-        Ending::Kept => name,
+        Ending::Kept => Name {
+            state: NameState::Off,
+        },
     }
 }
 

@@ -133,13 +133,12 @@ fn is_due(state: NameState, time: u64) -> bool
     }
 }
 
-// The lowest-numbered of the first n names that is due; n if none is.
-pub(crate) fn find_due(names: [Name; Name::COUNT], n: usize, time: u64) -> usize
-    requires { ⌜ n ≤ mostNames ⌝ }
-    ensures { λ r. ⌜ dueFrom n names 0 time ≡ cond (ltb r n) (due r) none ⌝ }
+// The lowest-numbered of the names that is due; their count if none is.
+pub(crate) fn find_due(names: [Name; Name::COUNT], time: u64) -> usize
+    ensures { λ r. ⌜ dueFrom mostNames names 0 time ≡ cond (ltb r mostNames) (due r) none ⌝ }
 {
     let mut i = 0;
-    while i < n {
+    while i < Name::COUNT {
         let name = names[i];
         let state = name.state;
         if is_due(state, time) {
@@ -147,5 +146,5 @@ pub(crate) fn find_due(names: [Name; Name::COUNT], n: usize, time: u64) -> usize
         }
         i = i + 1;
     }
-    n
+    Name::COUNT
 }

@@ -26,8 +26,8 @@ returns : tie.Need-returns
 unfolding judged
 returns c = stays c _ _ _ refl ∙ ap (unlessOwn _ (c .before .before .args .header .response)) (c .before .judge-state .ensures)
 
-is-own-requires : tie.Need-is-own-requires
-is-own-requires c κs = search needs
+is-ours-requires : tie.Need-is-ours-requires
+is-ours-requires c κs = search needs
 
 own-requires : tie.Need-own-requires
 own-requires c κs = search needs
@@ -36,13 +36,13 @@ returns-2 : tie.Need-returns-2
 unfolding judged
 returns-2 c =
     let j = c .before .before .before .before .before in
-    rw (c .own .ensures, ← c .before .before .is-own .ensures, ← j .judge-state .ensures, c .before .before .before .enum-told .given .1, c .before .if1 .taken)
+    rw (c .own .ensures, ← c .before .before .is-ours .ensures, ← j .judge-state .ensures, c .before .before .before .enum-told .given .1, c .before .if1 .taken)
 
 returns-3 : tie.Need-returns-3
 unfolding judged
 returns-3 c =
     let j = c .before .before .before .before in
-    rw (← c .before .is-own .ensures, ← j .judge-state .ensures, c .before .before .enum-told .given .1, c .if1 .left)
+    rw (← c .before .is-ours .ensures, ← j .judge-state .ensures, c .before .before .enum-told .given .1, c .if1 .left)
 
 pub judge-spec : {M : Type 1} → statement M
-judge-spec = tie.close (tie.spec judge-state-requires enum-told returns is-own-requires own-requires returns-2 returns-3)
+judge-spec = tie.close (tie.spec judge-state-requires enum-told returns is-ours-requires own-requires returns-2 returns-3)

@@ -1,8 +1,8 @@
 -- `responder::turn::find_due` meets its contract.
-use native.Mathlib.Omega.{arith}
 use mathlib.Core.Path.{_≡_, _∙_}
 use Prim.Native.Nat.{_-_, _≤_}
-use borrow.Author.Tests.{lt-ltb, le-ltb}
+use borrow.Author.Tests.{lt-ltb}
+use Rattle.name_table.specs.Bounds.{mostNames}
 use Rattle.host.specs.Tick.{dueFrom}
 use Rattle.responder.proofs.TurnLaws.{due-all, due-turn, due-end}
 use borrow.Author.Needs.{needs}
@@ -10,10 +10,10 @@ use Rattle.responder.proofs.turn.find_due.Statement.{statement}
 use Rattle.responder.proofs.turn.find_due.Tie as tie
 
 abbrev Inv-loop : tie.InvT-loop
-Inv-loop n time names i₀ i = (i ≤ n) × (dueFrom n names 0 time ≡ dueFrom (n - i) names i time)
+Inv-loop time names i₀ i = (i ≤ mostNames) × (dueFrom mostNames names 0 time ≡ dueFrom (mostNames - i) names i time)
 
 abbrev μ-loop : tie.MeasureT-loop
-μ-loop n time names i₀ i = n - i
+μ-loop time names i₀ i = mostNames - i
 
 loop-holds : tie.Need-loop-holds Inv-loop μ-loop
 loop-holds c = (search needs, due-all _ _ _)
@@ -40,10 +40,7 @@ loop-again : tie.Need-loop-again Inv-loop μ-loop
 loop-again c = (search needs, c .before .before .before .before .loop .inv .1 ∙ due-turn _ _ _ _ (c .before .before .before .loop-test .taken) ∙ rw (← c .before .is-due .ensures, c .if1 .left))
 
 returns-2 : tie.Need-returns-2 Inv-loop μ-loop
-returns-2 c =
-    let n = c .before .before .args .n in
-    let h : n ≤ n = omega arith in
-    c .before .loop .inv .1 ∙ due-end _ _ _ _ (c .loop-test .left) ∙ rw (le-ltb n n h)
+returns-2 c = c .before .loop .inv .1 ∙ due-end _ _ _ _ (c .loop-test .left)
 
 pub find-due-spec : {M : Type 1} → statement M
 find-due-spec =
