@@ -1,89 +1,93 @@
--- A call on an interface, through what that interface sees of the host: it gives what it gives on the whole host, and the name that it tells
--- is made flat again.
-use Prim.Native.Nat.{ℕ, zero, suc}
+-- A call on an interface, as the code makes it of the library's call in terms of one name.
+use Prim.Native.Nat.{ℕ, zero, suc, _<_}
 use mathlib.Core.Path.{_≡_, refl, sym, ap, _∙_}
-use mathlib.Core.Logic.{_⊎_, ⊎-elim}
 use mathlib.Core.List.{List, map}
-use mathlib.Core.Bool.{Bool, true, false, cond}
+use mathlib.Core.Bool.{true, false, cond}
 use native.Mathlib.Omega.{arith}
-use lib.ListN.{length, getD, set, length-map}
-use lib.Seq.{set-out}
+use lib.ListN.{length, getD, length-map}
+use lib.Seq.{getD-set-same}
 use lib.Dec.{ltb}
-use borrow.Author.Tests.{ltb-false}
-use Rattle.octets.specs.Tests.{_and_}
+use borrow.Author.Tests.{le-ltb}
 use Rattle.octets.specs.Bounds.{interfaces}
-use Rattle.octets.proofs.Tests.{split, both}
-use Rattle.host.specs.State.{interfaceOf as interfaceAt}
-use Rattle.host.specs.Outcomes.{Result, Done, resultOf, doneBy}
-use Rattle.host.specs.Laws.{SameHere, SameDone}
+use Rattle.octets.specs.Addresses.{oursAmong, isOurs, unused}
+use Rattle.octets.specs.declared.Address.{Address}
+use Rattle.octets.specs.declared.Setting.{Setting}
+use Rattle.octets.proofs.Tests.{split}
+use Rattle.name_table.specs.Bounds.{mostNames}
+use Rattle.host.specs.State.{offName, interfaceOf as interfaceAt, settingOf, stateOf as stateAt, isOwn, withState}
+use Rattle.host.specs.Outcomes.{Result, refused, ready, quiet, kept, query, reply, unique, shared, stopped, Done, resultOf}
 use Rattle.host.specs.declared.Name.{Name}
-use Rattle.host.specs.declared.Host.{Host}
-use Rattle.host.specs.declared.Step.{Step}
+use Rattle.host.specs.declared.NameState.{NameState}
 use Rattle.checks.specs.Messages.{slotOf}
-use Rattle.llmnr_c.specs.Outcomes.{flatOutcome, tellsName}
-use Rattle.llmnr_c.specs.FlatHost.{nameOf, hostOf, noInterface, withName, interfacesAfter, doneWith, madeFlatOn}
-use Rattle.llmnr_c.specs.Seen.{shownWith, seenWith}
-use Rattle.llmnr_c.specs.declared.flat.FlatInterface.{FlatInterface}
-use Rattle.llmnr_c.specs.declared.flat.FlatHost.{FlatHost}
-use Rattle.llmnr_c.proofs.Lists.{Four, four, fours}
+use Rattle.responder.specs.Served.{Sees, changes, nameTold, hostAfter, servedBy, Serves}
+use Rattle.responder.specs.declared.served.Served.{Served}
+use Rattle.llmnr_c.specs.Outcomes.{flatOutcome}
+use Rattle.llmnr_c.specs.FlatHost.{nameOf, seen, flatServed, done, stepOn}
+use Rattle.llmnr_c.specs.declared.flat.FlatSettings.{FlatSettings}
+use Rattle.llmnr_c.specs.declared.flat.FlatNames.{FlatNames}
 
--- the names of the interface at a place
-abbrev namesAt : List FlatInterface → ℕ → List Name
-namesAt fs at = map nameOf (getD fs at noInterface .names)
+-- ---- what the call looks at
 
-sees-four : (clock i : ℕ) {fs : List FlatInterface} → Four fs
-    → SameHere (hostOf (record { interfaces = fs; clock = clock })) (seenWith fs clock (namesAt fs (slotOf i))) i
-sees-four clock zero (four a b c d) = record { clock = refl; settings = refl; here = refl }
-sees-four clock (suc zero) (four a b c d) = record { clock = refl; settings = refl; here = refl }
-sees-four clock (suc (suc zero)) (four a b c d) = record { clock = refl; settings = refl; here = refl }
-sees-four clock (suc (suc (suc zero))) (four a b c d) = record { clock = refl; settings = refl; here = refl }
-sees-four clock (suc (suc (suc (suc i)))) (four a b c d) = record { clock = refl; settings = refl; here = refl }
+past : (i : ℕ) → ltb (suc (suc (suc (suc i)))) interfaces ≡ false
+past i = le-ltb (suc (suc (suc (suc i)))) interfaces (omega arith)
 
--- The code's view: the host that it hands to the library has the four interfaces; the names are those at the place of the interface.
-pub size : (fs : List FlatInterface) (clock : ℕ) (names : List Name) {g : Host} → g ≡ seenWith fs clock names → length (g .interfaces) ≡ interfaces
-    → length fs ≡ interfaces
-size fs clock names is e = sym (length-map fs (shownWith names)) ∙ sym (ap (λ (h : Host). length (h .interfaces)) is) ∙ e
+module _ (s : FlatSettings) (clock : ℕ) (n : FlatNames) where
+  setting-seen : (i : ℕ) → settingOf (seen s clock n) (slotOf i) ≡ getD (s .interfaces) (slotOf i) unused
+  setting-seen zero = refl
+  setting-seen (suc zero) = refl
+  setting-seen (suc (suc zero)) = refl
+  setting-seen (suc (suc (suc zero))) = refl
+  setting-seen (suc (suc (suc (suc i)))) = rw (past i)
 
-pub sees : (f : FlatHost) (i : ℕ) {at : ℕ} {g : Host} (names : List Name) → length (f .interfaces) ≡ interfaces → at ≡ slotOf i
-    → g ≡ seenWith (f .interfaces) (f .clock) names → names ≡ namesAt (f .interfaces) at → SameHere (hostOf f) g i
-sees f i {at} {g} names long place is here =
-    let view : g ≡ seenWith (f .interfaces) (f .clock) (namesAt (f .interfaces) (slotOf i))
-    = is ∙ ap (seenWith (f .interfaces) (f .clock)) (here ∙ ap (namesAt (f .interfaces)) place) in
-    rw view (sees-four (f .clock) i (fours (f .interfaces) long))
+  pub names-seen : (i : ℕ) → interfaceAt (seen s clock n) (slotOf i) .names ≡ map nameOf (n .names)
+  names-seen zero = refl
+  names-seen (suc zero) = refl
+  names-seen (suc (suc zero)) = refl
+  names-seen (suc (suc (suc zero))) = refl
+  names-seen (suc (suc (suc (suc i)))) = rw (past i)
 
--- A name is put at the place of an interface, as it is there in a later host.
-abbrev pub put : FlatHost → Host → ℕ → ℕ → List FlatInterface
-put f later k at = set (f .interfaces) at (withName (getD (f .interfaces) at noInterface) (interfaceAt later at) k)
+  pub sees : (i at : ℕ) → at ≡ slotOf i → Sees (seen s clock n) i (getD (s .interfaces) at unused) clock
+  sees i at p = record { setting = setting-seen i ∙ ap (λ (x : ℕ). getD (s .interfaces) x unused) (sym p); clock-is = refl }
 
--- So it is written back, if one is told and the interface is there; else nothing is.
-pub written : (f : FlatHost) (i at : ℕ) → length (f .interfaces) ≡ interfaces → at ≡ slotOf i → (later : Host) (r : Result) (fs : List FlatInterface) (tells : Bool)
-    → tells ≡ (tellsName r and ltb i interfaces)
-    → ((tells ≡ true) × (fs ≡ put f later (flatOutcome r .name) at)) ⊎ ((tells ≡ false) × (fs ≡ f .interfaces))
-    → fs ≡ interfacesAfter (f .interfaces) i (interfaceAt later i) r
-written f i at long place later r fs tells told = ⊎-elim yes no
-  where
-    yes : (tells ≡ true) × (fs ≡ put f later (flatOutcome r .name) at) → fs ≡ interfacesAfter (f .interfaces) i (interfaceAt later i) r
-    yes w =
-        let b = both (tellsName r) (ltb i interfaces) .0 (sym told ∙ w .0) in
-        let here : at ≡ i = place ∙ ap (λ (c : Bool). cond c i 0) (b .1) in
-        rw (b .0) (w .1 ∙ ap (put f later (flatOutcome r .name)) here)
+  pub state-seen : (i k : ℕ) (x : Name) → x ≡ getD (map nameOf (n .names)) k offName → stateAt (seen s clock n) (slotOf i) k ≡ x .state
+  state-seen i k x e = ap (λ (l : List Name). getD l k offName .state) (names-seen i) ∙ ap (λ (y : Name). y .state) (sym e)
 
-    no : (tells ≡ false) × (fs ≡ f .interfaces) → fs ≡ interfacesAfter (f .interfaces) i (interfaceAt later i) r
-    no w =
-        split (tellsName r)
-        (λ t. let past : ltb i interfaces ≡ false = ap (λ (c : Bool). c and ltb i interfaces) (sym t) ∙ sym told ∙ w .0 in
-        rw t (w .1 ∙ sym (set-out (f .interfaces) i _ (omega (arith, ltb-false i interfaces past, long)))))
-        (λ t. rw t (w .1))
+  pub own-seen : (a : Address) → isOurs (s .interfaces) a ≡ isOwn (seen s clock n) a
+  unfolding oursAmong
+  own-seen a = refl
 
--- what is made flat again is what both calls give alike
-alike : (f : FlatHost) (i : ℕ) (d e : Done) → SameDone d e i → madeFlatOn f i e ≡ madeFlatOn f i d
-alike f i d e s = cc
+  -- ---- what it gives
 
--- The code's step s gives what the definition gives on what the interface sees; its flat host is the one that was given, with what is written
--- back and the clock of that step.
-pub flattens : (f : FlatHost) (i : ℕ) {d e : Done} (s : Step) (out : List ℕ) (fs : List FlatInterface) → SameDone d e i → doneBy s out ≡ e
-    → fs ≡ interfacesAfter (f .interfaces) i (interfaceAt (s .host) i) (resultOf (s .outcome))
-    → doneWith (record { interfaces = fs; clock = s .host .clock }) (doneBy s out) ≡ madeFlatOn f i d
-flattens f i {d} {e} s out fs same gave back =
-    ap (λ (l : List FlatInterface). doneWith (record { interfaces = l; clock = s .host .clock }) (doneBy s out)) back
-    ∙ ap (madeFlatOn f i) gave ∙ alike f i d e same
+  -- the state that a name was given is there
+  stays : (i k c : ℕ) (x : NameState) → i < interfaces → k < length (n .names) → stateAt (withState (seen s clock n) i k x c) i k ≡ x
+  stays zero k c x l m = ap (λ (y : Name). y .state) (getD-set-same (map nameOf (n .names)) k _ offName (omega (arith, m, length-map (n .names) nameOf)))
+  stays (suc zero) k c x l m = ap (λ (y : Name). y .state) (getD-set-same (map nameOf (n .names)) k _ offName (omega (arith, m, length-map (n .names) nameOf)))
+  stays (suc (suc zero)) k c x l m = ap (λ (y : Name). y .state) (getD-set-same (map nameOf (n .names)) k _ offName (omega (arith, m, length-map (n .names) nameOf)))
+  stays (suc (suc (suc zero))) k c x l m = ap (λ (y : Name). y .state) (getD-set-same (map nameOf (n .names)) k _ offName (omega (arith, m, length-map (n .names) nameOf)))
+  stays (suc (suc (suc (suc i)))) k c x l m = absurd (omega (arith, l))
+
+  pub flattens : (r : Served) (out : List ℕ) (i : ℕ) {d : Done} → length (n .names) ≡ mostNames → Serves r out (seen s clock n) i d → done (flatServed r) out ≡ stepOn i d
+  flattens r out i {d} e v = go ∙ ap (stepOn i) (v .gives)
+    where
+      go : done (flatServed r) out ≡ stepOn i (servedBy r out (seen s clock n) i)
+      go =
+          split (changes (resultOf (r .outcome)))
+          (λ c. rw (c, stays i (nameTold (resultOf (r .outcome))) (r .clock) (r .name .state) (v .within c .0) (omega (arith, e, v .within c .1))))
+          (λ c. rw c)
+
+-- the number of the name that a result tells
+pub told-number : (x : Result) → nameTold x ≡ flatOutcome x .name
+told-number (refused t) = refl
+told-number ready = refl
+told-number quiet = refl
+told-number (kept k) = refl
+told-number (query k len) = refl
+told-number (reply len) = refl
+told-number (unique k) = refl
+told-number (shared k) = refl
+told-number (stopped k) = refl
+
+-- a name that has a new state is there
+pub within : (r : Served) (i : ℕ) → (changes (resultOf (r .outcome)) ≡ true → (i < interfaces) × (nameTold (resultOf (r .outcome)) < mostNames))
+    → flatServed r .changed ≡ true → (i < interfaces) × (flatServed r .outcome .name < mostNames)
+within r i w c = (w c .0, rw (← told-number (resultOf (r .outcome))) (w c .1))

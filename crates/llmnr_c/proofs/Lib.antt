@@ -1,5 +1,5 @@
 pub mod Lists
 pub mod RoundTrip
-pub mod Calls
 pub mod Told
-pub mod Stands
+pub mod Calls
+pub mod Taken

@@ -1,9 +1,11 @@
 -- Flat and back loses nothing: a host, a lookup and an outcome that are made flat stand for themselves; and a flat value in normal form is what
 -- its state is made into.
 use Prim.Native.Nat.{ℕ, zero, suc}
-use mathlib.Core.Path.{_≡_, refl, ap}
+use mathlib.Core.Path.{_≡_, refl, ap, _∙_}
 use mathlib.Core.List.{List, [], _∷_, map}
 use native.Mathlib.Omega.{arith}
+use lib.ListN.{length, length-map}
+use Rattle.octets.specs.declared.Setting.{Setting}
 use Rattle.refusal.specs.Numbers.{reportOf}
 use Rattle.refusal.specs.declared.Refusal.{Refusal}
 use Rattle.refusal.specs.declared.Refusal.the-variants.{Room, Table, Interface, Clock, Length, Address, Opcode, Rcode, Counts, Question, Class, NotOurs, Stopped, Notification, Unmatched, Own, Tentative, Records, Busy, Settings}
@@ -22,13 +24,14 @@ use Rattle.lookup.specs.declared.Lookup.{Lookup}
 use Rattle.lookup.specs.declared.Outcome.{Outcome as LookupOutcome}
 use Rattle.lookup.specs.declared.Outcome.the-variants.{Refused as LookupRefused, Quiet as LookupQuiet, Query as LookupQuery, Part, Found, Collected, NoSuchName}
 use Rattle.llmnr_c.specs.Outcomes.{flatRefusal, flatOutcome, flatLookupOutcome, reportFrom, resultFrom, lookupResultFrom}
-use Rattle.llmnr_c.specs.FlatHost.{stateOf, nameOf, interfaceOf, hostOf, flatState, flatName, flatInterface, flatHost}
+use Rattle.llmnr_c.specs.FlatHost.{stateOf, nameOf, hostOf, flatState, flatName, flatNames, flatHost}
 use Rattle.llmnr_c.specs.FlatLookup.{phaseOf, lookupOf, phaseNumber, sendsIn, dueIn, flatLookup}
 use Rattle.llmnr_c.specs.Normal.{IsNormalName, AreNormalNames, AreNormalInterfaces, IsNormalHost, IsNormalLookup}
 use Rattle.llmnr_c.specs.declared.flat.FlatName.{FlatName}
-use Rattle.llmnr_c.specs.declared.flat.FlatInterface.{FlatInterface}
+use Rattle.llmnr_c.specs.declared.flat.FlatNames.{FlatNames}
 use Rattle.llmnr_c.specs.declared.flat.FlatHost.{FlatHost}
 use Rattle.llmnr_c.specs.declared.flat_lookup.FlatLookup.{FlatLookup}
+use Rattle.llmnr_c.proofs.Lists.{Four, four, fours}
 
 -- ---- A host that is made flat stands for itself.
 
@@ -47,15 +50,11 @@ names-back : (l : List Name) → map nameOf (map flatName l) ≡ l
 names-back [] = refl
 names-back (n ∷ l) = rw (name-back n, names-back l)
 
-interface-back : (i : HostInterface) → interfaceOf (flatInterface i) ≡ i
-interface-back i = ap (λ (l : List Name). record { setting = i .setting; names = l }) (names-back (i .names))
-
-interfaces-back : (l : List HostInterface) → map interfaceOf (map flatInterface l) ≡ l
-interfaces-back [] = refl
-interfaces-back (i ∷ l) = rw (interface-back i, interfaces-back l)
-
-pub host-back : (h : Host) → hostOf (flatHost h) ≡ h
-host-back h = ap (λ (l : List HostInterface). record { interfaces = l; clock = h .clock }) (interfaces-back (h .interfaces))
+pub host-back : (h : Host) → length (h .interfaces) ≡ 4 → hostOf (flatHost h) ≡ h
+host-back h e = ap (λ (l : List HostInterface). record { interfaces = l; clock = h .clock }) (go (fours (h .interfaces) e))
+  where
+    go : {l : List HostInterface} → Four l → hostOf (flatHost (record { interfaces = l; clock = h .clock })) .interfaces ≡ l
+    go (four a b c d) = rw (names-back (a .names), names-back (b .names), names-back (c .names), names-back (d .names))
 
 -- ---- So does a lookup.
 
@@ -130,12 +129,14 @@ names-forth : (l : List FlatName) → AreNormalNames l → map flatName (map nam
 names-forth [] n = refl
 names-forth (f ∷ l) n = rw (name-forth (f .state) (f .sends) (f .id) (f .qtype) (f .qclass) (f .due) (n .0), names-forth l (n .1))
 
-interfaces-forth : (l : List FlatInterface) → AreNormalInterfaces l → map flatInterface (map interfaceOf l) ≡ l
-interfaces-forth [] n = refl
-interfaces-forth (f ∷ l) n = rw (names-forth (f .names) (n .0), interfaces-forth l (n .1))
-
 pub host-forth : (f : FlatHost) → IsNormalHost f → flatHost (hostOf f) ≡ f
-host-forth f n = ap (λ (l : List FlatInterface). record { interfaces = l; clock = f .clock }) (interfaces-forth (f .interfaces) n)
+host-forth f n = go (fours (f .settings .interfaces) (n .settings)) (fours (f .interfaces) (n .four)) (n .names)
+  where
+    go : {l : List Setting} {m : List FlatNames} → Four l → Four m → AreNormalInterfaces m
+        → flatHost (hostOf (record { settings = record { interfaces = l }; interfaces = m; clock = f .clock }))
+        ≡ record { settings = record { interfaces = l }; interfaces = m; clock = f .clock }
+    go (four p q r s) (four a b c d) k =
+        rw (names-forth (a .names) (k .0), names-forth (b .names) (k .1 .0), names-forth (c .names) (k .1 .1 .0), names-forth (d .names) (k .1 .1 .1 .0))
 
 -- ---- So is a flat lookup.
 
@@ -167,12 +168,17 @@ names-normal : (l : List Name) → AreNormalNames (map flatName l)
 names-normal [] = tt
 names-normal (n ∷ l) = (name-normal (n .state), names-normal l)
 
-interfaces-normal : (l : List HostInterface) → AreNormalInterfaces (map flatInterface l)
+interfaces-normal : (l : List HostInterface) → AreNormalInterfaces (map flatNames l)
 interfaces-normal [] = tt
 interfaces-normal (i ∷ l) = (names-normal (i .names), interfaces-normal l)
 
-pub host-normal : (h : Host) → IsNormalHost (flatHost h)
-host-normal h = interfaces-normal (h .interfaces)
+pub host-normal : (h : Host) → length (h .interfaces) ≡ 4 → IsNormalHost (flatHost h)
+host-normal h e =
+    record {
+      settings = length-map (h .interfaces) (λ (i : HostInterface). i .setting) ∙ e;
+      four = length-map (h .interfaces) flatNames ∙ e;
+      names = interfaces-normal (h .interfaces);
+    }
 
 pub lookup-normal : (l : Lookup) → IsNormalLookup (flatLookup l)
 lookup-normal l = go (l .phase)

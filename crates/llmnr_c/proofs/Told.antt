@@ -1,6 +1,6 @@
--- A call of a host changes at most the name that its outcome tells: nothing where it tells none.
+-- A call of a host changes at most the name that its outcome tells, and none unless the outcome is one that does.
 use Prim.Native.Nat.{ℕ}
-use mathlib.Core.Path.{_≡_, refl, sym, ap}
+use mathlib.Core.Path.{_≡_, refl}
 use mathlib.Core.List.{List}
 use mathlib.Core.Bool.{Bool, true, false}
 use lib.ListN.{length}
@@ -19,16 +19,15 @@ use Rattle.host.specs.declared.NameState.{NameState}
 use Rattle.host.specs.declared.NameState.the-variants.{Off, Verifying, Unique, Defending, Stopped, Shared}
 use Rattle.host.specs.declared.Interface.{Interface}
 use Rattle.host.specs.declared.Host.{Host}
-use Rattle.host.proofs.Laws.{state-stays}
-use Rattle.llmnr_c.specs.Outcomes.{flatOutcome, tellsName}
+use Rattle.responder.specs.Served.{changes, nameTold}
 
 -- the interfaces of h, with a state of the k-th name of interface i
 abbrev pub changed : Host → ℕ → ℕ → NameState → List Interface
 changed h i k s = withState h i k s 0 .interfaces
 
 pub data Tells (h : Host) (i : ℕ) (d : Done) : Type 0 where
-  silent : tellsName (d .result) ≡ false → d .host .interfaces ≡ h .interfaces → Tells h i d
-  tells : (s : NameState) → tellsName (d .result) ≡ true → d .host .interfaces ≡ changed h i (flatOutcome (d .result) .name) s → Tells h i d
+  silent : changes (d .result) ≡ false → d .host .interfaces ≡ h .interfaces → Tells h i d
+  tells : (s : NameState) → changes (d .result) ≡ true → d .host .interfaces ≡ changed h i (nameTold (d .result)) s → Tells h i d
 
 module _ (h : Host) (table : List ℕ) (i time id : ℕ) (out : List ℕ) where
   pub start-tells : (k : ℕ) → Tells h i (start h table i k time id out)
@@ -75,9 +74,7 @@ receive-tells h a = go (verdict (receiveChecks h a))
     by answer = silent refl refl
     by defend = tells _ refl refl
     by stop = tells _ refl refl
-    by keep =
-        tells (stateOf h (a .interface) (nameNumber a)) refl
-        (sym (ap (λ (g : Host). g .interfaces) (state-stays h (a .interface) (nameNumber a) 0)))
+    by keep = silent refl refl
 
     go : (v : Verdict) → Tells h (a .interface) (receiveIf v h a)
     go (refusedBy t) = silent refl refl

@@ -1,6 +1,6 @@
--- A host as flat structs, and back; and what a call of a host gives in C.
+-- A host as flat structs, and back; what a call of a host gives in C; and how that is taken into the host.
 use Prim.Native.Nat.{ℕ}
-use mathlib.Core.List.{List, [], map}
+use mathlib.Core.List.{List, [], _∷_, map}
 use mathlib.Core.Bool.{cond}
 use lib.ListN.{getD, set}
 use lib.Dec.{eqb}
@@ -10,13 +10,17 @@ use Rattle.host.specs.declared.NameState.the-variants.{Off, Verifying, Unique, 
 use Rattle.host.specs.declared.Name.{Name}
 use Rattle.host.specs.declared.Interface.{Interface}
 use Rattle.host.specs.declared.Host.{Host}
-use Rattle.host.specs.State.{offName, dueAt, interfaceOf as interfaceAt}
-use Rattle.host.specs.Outcomes.{Result, Done}
+use Rattle.host.specs.State.{settingsOf, stateOf as stateAt, dueAt}
+use Rattle.host.specs.Outcomes.{Done, resultOf}
+use Rattle.responder.specs.declared.served.Served.{Served}
+use Rattle.responder.specs.Served.{changes, nameTold}
 use Rattle.llmnr_c.specs.Numbers.{stateOff, stateVerifying, stateUnique, stateDefending, stateStopped, stateShared}
-use Rattle.llmnr_c.specs.Outcomes.{flatOutcome, tellsName}
+use Rattle.llmnr_c.specs.Outcomes.{flatOutcome}
 use Rattle.llmnr_c.specs.declared.flat.FlatName.{FlatName}
-use Rattle.llmnr_c.specs.declared.flat.FlatInterface.{FlatInterface}
+use Rattle.llmnr_c.specs.declared.flat.FlatNames.{FlatNames}
+use Rattle.llmnr_c.specs.declared.flat.FlatSettings.{FlatSettings}
 use Rattle.llmnr_c.specs.declared.flat.FlatHost.{FlatHost}
+use Rattle.llmnr_c.specs.declared.flat.FlatSetUp.{FlatSetUp}
 use Rattle.llmnr_c.specs.declared.flat.FlatStep.{FlatStep}
 
 -- ---- what a flat value stands for
@@ -34,15 +38,23 @@ stateOf f =
 abbrev pub nameOf : FlatName → Name
 nameOf f = record { state = stateOf f }
 
-abbrev pub interfaceOf : FlatInterface → Interface
-interfaceOf f = record { setting = f .setting; names = map nameOf (f .names) }
+-- the names of an interface that is not there: the zero value
+abbrev pub noNames : FlatNames
+noNames = record { names = [] }
+
+-- an interface, by its number
+abbrev pub interfaceOf : FlatHost → ℕ → Interface
+interfaceOf f i =
+    record { setting = getD (f .settings .interfaces) i unused; names = map nameOf (getD (f .interfaces) i noNames .names) }
 
 abbrev pub hostOf : FlatHost → Host
-hostOf f = record { interfaces = map interfaceOf (f .interfaces); clock = f .clock }
+hostOf f =
+    record { interfaces = interfaceOf f 0 ∷ interfaceOf f 1 ∷ interfaceOf f 2 ∷ interfaceOf f 3 ∷ []; clock = f .clock }
 
--- an interface that is not there: the zero value
-abbrev pub noInterface : FlatInterface
-noInterface = record { setting = unused; names = [] }
+-- What a call on an interface is given stands for a host whose interfaces all have these names. Those of the others do not matter: what it
+-- gives is what it gives on every host with these settings, this clock and these names here (proofs/Taken.antt).
+abbrev pub seen : FlatSettings → ℕ → FlatNames → Host
+seen s clock n = hostOf (record { settings = s; interfaces = n ∷ n ∷ n ∷ n ∷ []; clock = clock })
 
 -- ---- and back
 
@@ -63,13 +75,22 @@ flatState Shared = bare stateShared
 abbrev pub flatName : Name → FlatName
 flatName n = flatState (n .state)
 
-abbrev pub flatInterface : Interface → FlatInterface
-flatInterface i = record { setting = i .setting; names = map flatName (i .names) }
+abbrev pub flatNames : Interface → FlatNames
+flatNames i = record { names = map flatName (i .names) }
 
 abbrev pub flatHost : Host → FlatHost
-flatHost h = record { interfaces = map flatInterface (h .interfaces); clock = h .clock }
+flatHost h =
+    record {
+      settings = record { interfaces = settingsOf (h .interfaces) };
+      interfaces = map flatNames (h .interfaces);
+      clock = h .clock;
+    }
 
 -- ---- what a call gives
+
+-- set-up: the whole host
+abbrev pub hostSetUp : Done → FlatSetUp
+hostSetUp d = record { host = flatHost (d .host); outcome = flatOutcome (d .result) }
 
 -- the flat step, and every octet of the lent buffer
 pub record FlatDone : Type 0 where
@@ -79,25 +100,44 @@ pub record FlatDone : Type 0 where
 abbrev pub done : FlatStep → List ℕ → FlatDone
 done s out = record { step = s; octets = out }
 
--- of a definition's: its outcome as numbers, and a flat host
-abbrev pub doneWith : FlatHost → Done → FlatDone
-doneWith f d =
-    record { step = record { host = f; outcome = flatOutcome (d .result); to = d .to }; octets = d .octets }
+-- the name of interface i that has a new state; all zero if none has
+abbrev pub nameAfter : ℕ → Done → FlatName
+nameAfter i d = cond (changes (d .result)) (flatState (stateAt (d .host) i (nameTold (d .result)))) (bare stateOff)
 
--- set-up makes the whole host
-abbrev pub madeFlat : Done → FlatDone
-madeFlat d = doneWith (flatHost (d .host)) d
+abbrev pub stepOn : ℕ → Done → FlatDone
+stepOn i d =
+    record {
+      step =
+          record {
+            clock = d .host .clock;
+            name = nameAfter i d;
+            outcome = flatOutcome (d .result);
+            to = d .to;
+            changed = changes (d .result);
+          };
+      octets = d .octets;
+    }
 
--- A call on an interface, after which it is x, makes the name flat again that the outcome tells. All other names stay as they were given.
-abbrev pub withName : FlatInterface → Interface → ℕ → FlatInterface
-withName f x k = record { setting = f .setting; names = set (f .names) k (flatName (getD (x .names) k offName)) }
+-- what the code's call says
+abbrev pub flatServed : Served → FlatStep
+flatServed r =
+    record {
+      clock = r .clock;
+      name = cond (changes (resultOf (r .outcome))) (flatName (r .name)) (bare stateOff);
+      outcome = flatOutcome (resultOf (r .outcome));
+      to = r .to;
+      changed = changes (resultOf (r .outcome));
+    }
 
-abbrev pub interfacesAfter : List FlatInterface → ℕ → Interface → Result → List FlatInterface
-interfacesAfter fs i x r = cond (tellsName r) (set fs i (withName (getD fs i noInterface) x (flatOutcome r .name))) fs
+-- ---- taking a step into the host that it was made of: `llmnr_take` of the header
 
-abbrev pub hostAfter : FlatHost → ℕ → Done → FlatHost
-hostAfter f i d =
-    record { interfaces = interfacesAfter (f .interfaces) i (interfaceAt (d .host) i) (d .result); clock = d .host .clock }
+abbrev pub namesAfter : FlatNames → FlatStep → FlatNames
+namesAfter n s = record { names = set (n .names) (s .outcome .name) (s .name) }
 
-abbrev pub madeFlatOn : FlatHost → ℕ → Done → FlatDone
-madeFlatOn f i d = doneWith (hostAfter f i d) d
+abbrev pub take : FlatHost → ℕ → FlatStep → FlatHost
+take f i s =
+    record {
+      settings = f .settings;
+      interfaces = cond (s .changed) (set (f .interfaces) i (namesAfter (getD (f .interfaces) i noNames) s)) (f .interfaces);
+      clock = s .clock;
+    }

@@ -1,7 +1,6 @@
 pub mod Numbers
 pub mod Outcomes
 pub mod FlatHost
-pub mod Seen
 pub mod FlatLookup
 pub mod Reading
 pub mod Normal

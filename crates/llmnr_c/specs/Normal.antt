@@ -3,9 +3,11 @@ use Prim.Native.Nat.{_≤_}
 use mathlib.Core.Path.{_≡_}
 use mathlib.Core.Logic.{_≢_}
 use mathlib.Core.List.{List, [], _∷_}
+use lib.ListN.{length}
+use Rattle.octets.specs.Bounds.{interfaces as interfaceCount}
 use Rattle.llmnr_c.specs.Numbers.{stateShared, stateVerifying, stateDefending, phaseEnded, phaseAsking, phaseCollecting}
 use Rattle.llmnr_c.specs.declared.flat.FlatName.{FlatName}
-use Rattle.llmnr_c.specs.declared.flat.FlatInterface.{FlatInterface}
+use Rattle.llmnr_c.specs.declared.flat.FlatNames.{FlatNames}
 use Rattle.llmnr_c.specs.declared.flat.FlatHost.{FlatHost}
 use Rattle.llmnr_c.specs.declared.flat_lookup.FlatLookup.{FlatLookup}
 
@@ -22,12 +24,15 @@ abbrev pub AreNormalNames : List FlatName → Type 0
 AreNormalNames [] = Unit
 AreNormalNames (f ∷ fs) = IsNormalName f × AreNormalNames fs
 
-abbrev pub AreNormalInterfaces : List FlatInterface → Type 0
+abbrev pub AreNormalInterfaces : List FlatNames → Type 0
 AreNormalInterfaces [] = Unit
 AreNormalInterfaces (f ∷ fs) = AreNormalNames (f .names) × AreNormalInterfaces fs
 
-abbrev pub IsNormalHost : FlatHost → Type 0
-IsNormalHost f = AreNormalInterfaces (f .interfaces)
+-- with four interfaces
+pub record IsNormalHost (f : FlatHost) : Type 0 where
+  pub settings : length (f .settings .interfaces) ≡ interfaceCount
+  pub four : length (f .interfaces) ≡ interfaceCount
+  pub names : AreNormalInterfaces (f .interfaces)
 
 pub record IsNormalLookup (f : FlatLookup) : Type 0 where
   pub phase : f .phase ≤ phaseCollecting

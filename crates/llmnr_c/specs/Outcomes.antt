@@ -1,6 +1,6 @@
 -- What a call comes to, as numbers: what it says, and the values that go with it. All else is zero.
 use Prim.Native.Nat.{ℕ}
-use mathlib.Core.Bool.{Bool, true, false, cond}
+use mathlib.Core.Bool.{cond}
 use lib.Dec.{eqb}
 use Rattle.refusal.specs.Numbers.{Report, number, number-at, numberIn}
 use Rattle.host.specs.Outcomes.{Result, refused, ready, quiet, kept, unique, shared, stopped, query, reply}
@@ -35,18 +35,6 @@ flatOutcome (reply len) = said saysReply 0 len
 flatOutcome (unique k) = said saysUnique k 0
 flatOutcome (shared k) = said saysShared k 0
 flatOutcome (stopped k) = said saysStopped k 0
-
--- it tells a name
-abbrev pub tellsName : Result → Bool
-tellsName (refused t) = false
-tellsName ready = false
-tellsName quiet = false
-tellsName (kept k) = true
-tellsName (query k len) = true
-tellsName (reply len) = false
-tellsName (unique k) = true
-tellsName (shared k) = true
-tellsName (stopped k) = true
 
 -- of a lookup
 abbrev pub flatLookupOutcome : lookups.Result → FlatOutcome

@@ -1,11 +1,15 @@
 // The state of a host as flat structs, and back. Any flat value stands for some state.
 ghost use mathlib.Core.Path.{_≡_};
 ghost use mathlib.Core.List.{map};
-ghost use lib.ListN.{length, getD, set};
-ghost use Rattle.host.specs.State.{offName};
-ghost use Rattle.octets.specs.Bounds.{interfaces as mostInterfaces};
-ghost use Rattle.llmnr_c.specs.FlatHost.{nameOf, bare as bareName, flatName, flatInterface, flatHost, withName};
-ghost use Rattle.llmnr_c.specs.Seen.{shownWith, seenWith};
+ghost use mathlib.Core.Bool.{cond};
+ghost use lib.ListN.{length, getD};
+ghost use lib.Dec.{ltb};
+ghost use Rattle.name_table.specs.Bounds.{mostNames};
+ghost use Rattle.host.specs.State.{offName, settingsOf};
+ghost use Rattle.host.specs.Tick.{isDue, due, none, dueFrom};
+ghost use Rattle.llmnr_c.specs.Numbers.{stateOff};
+ghost use Rattle.llmnr_c.specs.FlatHost.{stateOf, nameOf, bare as bareName, flatName, flatNames, flatHost, flatServed};
+use crate::outcome;
 use crate::outcome::FlatOutcome;
 use host::Host;
 use host::Interface;
@@ -14,6 +18,7 @@ use host::NameState;
 use host::Timer;
 use octets::Endpoint;
 use octets::Setting;
+use responder::served::Served;
 
 // A name: the number of its state, and of a state with data these; all else is zero.
 #[repr(C)]
@@ -40,16 +45,10 @@ impl FlatName {
     pub const SHARED: u8 = 5;
 }
 
+// The names of an interface, in the table's order.
 #[repr(C)]
-pub struct FlatInterface {
-    pub setting: Setting,
+pub struct FlatNames {
     pub names: [FlatName; Name::COUNT],
-}
-
-#[repr(C)]
-pub struct FlatHost {
-    pub interfaces: [FlatInterface; Setting::COUNT],
-    pub clock: u64,
 }
 
 #[repr(C)]
@@ -58,10 +57,27 @@ pub struct FlatSettings {
 }
 
 #[repr(C)]
-pub struct FlatStep {
+pub struct FlatHost {
+    pub settings: FlatSettings,
+    pub interfaces: [FlatNames; Setting::COUNT],
+    pub clock: u64,
+}
+
+#[repr(C)]
+pub struct FlatSetUp {
     pub host: FlatHost,
     pub outcome: FlatOutcome,
+}
+
+// What a call comes to on an interface: the clock; the name that the outcome tells, if it has a new state, else all zero; the outcome; where to
+// send; and whether a name has a new state.
+#[repr(C)]
+pub struct FlatStep {
+    pub clock: u64,
+    pub name: FlatName,
+    pub outcome: FlatOutcome,
     pub to: Endpoint,
+    pub changed: bool,
 }
 
 // The state that a flat name stands for. A number that no state has counts as Off.
@@ -90,45 +106,43 @@ fn name_of(flat: FlatName) -> Name
     Name { state }
 }
 
-pub(crate) fn names_of(flat: [FlatName; Name::COUNT]) -> [Name; Name::COUNT]
-    ensures { λ r. ⌜ r ≡ map nameOf flat ⌝ }
+// The state that the name with a number stands for; Off where there is none. There are eight names.
+pub(crate) fn name_at(names: [FlatName; Name::COUNT], k: usize) -> Name
+    ensures { λ r. ⌜ r ≡ getD (map nameOf names) k offName ⌝ }
+    ensures { λ r. ⌜ length names ≡ mostNames ⌝ }
 {
-    let a = name_of(flat[0]);
-    let b = name_of(flat[1]);
-    let c = name_of(flat[2]);
-    let d = name_of(flat[3]);
-    let e = name_of(flat[4]);
-    let f = name_of(flat[5]);
-    let g = name_of(flat[6]);
-    let h = name_of(flat[7]);
-    [a, b, c, d, e, f, g, h]
-}
-
-// An interface with its own settings and some names.
-fn shown(flat: FlatInterface, names: [Name; Name::COUNT]) -> Interface
-    ensures { λ r. ⌜ r ≡ shownWith names flat ⌝ }
-{
-    let setting = flat.setting;
-    Interface { setting, names }
-}
-
-// The host as an interface with these names sees it; it has four interfaces.
-pub(crate) fn seen(
-    flat: [FlatInterface; Setting::COUNT],
-    clock: u64,
-    names: [Name; Name::COUNT],
-) -> Host
-    ensures { λ r. ⌜ r ≡ seenWith flat clock names ⌝ }
-    ensures { λ r. ⌜ length (r .interfaces) ≡ mostInterfaces ⌝ }
-{
-    let a = shown(flat[0], names);
-    let b = shown(flat[1], names);
-    let c = shown(flat[2], names);
-    let d = shown(flat[3], names);
-    Host {
-        interfaces: [a, b, c, d],
-        clock: clock,
+    if k < Name::COUNT {
+        return name_of(names[k]);
     }
+    Name {
+        state: NameState::Off,
+    }
+}
+
+fn is_due(flat: FlatName, time: u64) -> bool
+    ensures { λ r. ⌜ r ≡ isDue (stateOf flat) time ⌝ }
+{
+    let number = flat.state;
+    match number {
+        FlatName::VERIFYING => flat.due <= time,
+        FlatName::DEFENDING => flat.due <= time,
+        _ => false,
+    }
+}
+
+// The lowest-numbered of the names that is due; their count if none is.
+pub(crate) fn find_due(names: [FlatName; Name::COUNT], time: u64) -> usize
+    ensures { λ r. ⌜ dueFrom mostNames (map nameOf names) 0 time ≡ cond (ltb r mostNames) (due r) none ⌝ }
+{
+    let mut i = 0;
+    while i < Name::COUNT {
+        let name = names[i];
+        if is_due(name, time) {
+            return i;
+        }
+        i = i + 1;
+    }
+    Name::COUNT
 }
 
 // A state without data.
@@ -178,7 +192,15 @@ fn flat_name(name: Name) -> FlatName
     }
 }
 
-fn flat_names(names: [Name; Name::COUNT]) -> [FlatName; Name::COUNT]
+fn flat_names(interface: Interface) -> FlatNames
+    ensures { λ r. ⌜ r ≡ flatNames interface ⌝ }
+{
+    let held = interface.names;
+    let names = each_flat(held);
+    FlatNames { names }
+}
+
+fn each_flat(names: [Name; Name::COUNT]) -> [FlatName; Name::COUNT]
     ensures { λ r. ⌜ r ≡ map flatName names ⌝ }
 {
     let a = flat_name(names[0]);
@@ -192,63 +214,64 @@ fn flat_names(names: [Name; Name::COUNT]) -> [FlatName; Name::COUNT]
     [a, b, c, d, e, f, g, h]
 }
 
-fn flat_interface(interface: Interface) -> FlatInterface
-    ensures { λ r. ⌜ r ≡ flatInterface interface ⌝ }
+fn flat_interfaces(interfaces: [Interface; Setting::COUNT]) -> [FlatNames; Setting::COUNT]
+    ensures { λ r. ⌜ r ≡ map flatNames interfaces ⌝ }
 {
-    let held = interface.names;
-    let names = flat_names(held);
-    let setting = interface.setting;
-    FlatInterface { setting, names }
+    let a = flat_names(interfaces[0]);
+    let b = flat_names(interfaces[1]);
+    let c = flat_names(interfaces[2]);
+    let d = flat_names(interfaces[3]);
+    [a, b, c, d]
 }
 
-fn flat_interfaces(interfaces: [Interface; Setting::COUNT]) -> [FlatInterface; Setting::COUNT]
-    ensures { λ r. ⌜ r ≡ map flatInterface interfaces ⌝ }
+fn flat_settings(interfaces: [Interface; Setting::COUNT]) -> FlatSettings
+    ensures { λ r. ⌜ r ≡ record { interfaces = settingsOf interfaces } ⌝ }
 {
-    let a = flat_interface(interfaces[0]);
-    let b = flat_interface(interfaces[1]);
-    let c = flat_interface(interfaces[2]);
-    let d = flat_interface(interfaces[3]);
-    [a, b, c, d]
+    let settings = Interface::settings(interfaces);
+    FlatSettings {
+        interfaces: settings,
+    }
 }
 
 pub(crate) fn flat_host(host: Host) -> FlatHost
     ensures { λ r. ⌜ r ≡ flatHost host ⌝ }
 {
     let held = host.interfaces;
+    let settings = flat_settings(held);
     let interfaces = flat_interfaces(held);
     let clock = host.clock;
-    FlatHost { interfaces, clock }
-}
-
-// The name with a number; Off where there is none.
-fn name_at(names: [Name; Name::COUNT], k: usize) -> Name
-    ensures { λ r. ⌜ r ≡ getD names k offName ⌝ }
-{
-    if k < Name::COUNT {
-        return names[k];
-    }
-    Name {
-        state: NameState::Off,
+    FlatHost {
+        settings,
+        interfaces,
+        clock,
     }
 }
 
-fn put_name(mut names: [FlatName; Name::COUNT], k: usize, name: FlatName) -> [FlatName; Name::COUNT]
-    ensures { λ r. ⌜ r ≡ set names k name ⌝ }
+// The new state of a name, if it has one.
+fn new_name(changed: bool, name: Name) -> FlatName
+    ensures { λ r. ⌜ r ≡ cond changed (flatName name) (bareName stateOff) ⌝ }
 {
-    if k < Name::COUNT {
-        names[k] = name;
+    if changed {
+        return flat_name(name);
     }
-    names
+    bare(FlatName::OFF)
 }
 
-// A flat interface in which a name is made flat again, as it is in an interface.
-pub(crate) fn with_name(flat: FlatInterface, interface: Interface, k: usize) -> FlatInterface
-    ensures { λ r. ⌜ r ≡ withName flat interface k ⌝ }
+// What the library's call comes to, as a step.
+pub(crate) fn step(served: Served) -> FlatStep
+    ensures { λ r. ⌜ r ≡ flatServed served ⌝ }
 {
-    let held = interface.names;
-    let name = flat_name(name_at(held, k));
-    let kept = flat.names;
-    let names = put_name(kept, k, name);
-    let setting = flat.setting;
-    FlatInterface { setting, names }
+    let came = served.outcome;
+    let changed = outcome::changes_name(came);
+    let next = served.name;
+    let name = new_name(changed, next);
+    let outcome = outcome::of_host(came);
+    let to = served.to;
+    FlatStep {
+        clock: served.clock,
+        name: name,
+        outcome: outcome,
+        to: to,
+        changed: changed,
+    }
 }

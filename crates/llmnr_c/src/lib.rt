@@ -1,11 +1,13 @@
-// The calls for C. A state crosses as a flat struct, with numbers in the place of enums; include/llmnr.h has the same structs. Each call gives
-// what the library's definition gives on the state that the flat struct stands for, made flat again.
+// The calls for C. A state crosses as flat structs, with numbers in the place of enums; include/llmnr.h has the same structs. Each call gives what
+// the library's definition gives on the state that the flat structs stand for, made flat again.
 //
-// A call of a host depends on the names of its own interface alone, and changes at most the one that its outcome tells. So start, receive
-// and tick hand the library a host in which every interface has these names, and write back that name and the clock: all else stays as it
-// was given, octet for octet.
+// A call of a host depends on the settings, the clock and the names of its own interface alone, and changes at most the clock and one of these
+// names. So it is given these, and gives the clock and that name.
 ghost use mathlib.Core.Path.{_≡_};
-ghost use mathlib.Core.List.{[]};
+ghost use mathlib.Core.Bool.{true};
+ghost use Prim.Native.Nat.{_<_};
+ghost use Rattle.octets.specs.Bounds.{interfaces};
+ghost use Rattle.name_table.specs.Bounds.{mostNames};
 ghost use Rattle.name_table.specs.Check.{checkTable};
 ghost use Rattle.message.specs.Records.{recordAt};
 ghost use Rattle.host.specs.SetUp.{setUp};
@@ -15,7 +17,7 @@ ghost use Rattle.host.specs.Tick.{tick as tickOf};
 ghost use Rattle.lookup.specs.Start.{start as lookupStartOf};
 ghost use Rattle.lookup.specs.Receive.{receive as lookupReceiveOf};
 ghost use Rattle.lookup.specs.Tick.{tick as lookupTickOf};
-ghost use Rattle.llmnr_c.specs.FlatHost.{hostOf, done, madeFlat, madeFlatOn};
+ghost use Rattle.llmnr_c.specs.FlatHost.{seen, hostSetUp, done, stepOn};
 ghost use Rattle.llmnr_c.specs.FlatLookup.{lookupOf, done as lookupDone, madeFlat as lookupMadeFlat};
 ghost use Rattle.llmnr_c.specs.Reading.{flatRecord, flatTable};
 
@@ -24,7 +26,8 @@ mod flat_lookup;
 mod outcome;
 mod reading;
 
-use flat::FlatHost;
+use flat::FlatNames;
+use flat::FlatSetUp;
 use flat::FlatSettings;
 use flat::FlatStep;
 use flat_lookup::FlatLookup;
@@ -33,25 +36,33 @@ use octets::Address;
 use octets::Endpoint;
 use reading::FlatRecord;
 use reading::FlatTable;
+use responder::heard;
+use responder::served;
 
 // Sets a host up.
 #[no_mangle]
-pub extern "C" fn llmnr_set_up(table: &[u8], settings: FlatSettings, time: u64, id: u16) -> FlatStep
-    ensures { λ r. ⌜ done r [] ≡ madeFlat (setUp (now (table .entry)) (settings .interfaces) time id) ⌝ }
+pub extern "C" fn llmnr_set_up(
+    table: &[u8],
+    settings: FlatSettings,
+    time: u64,
+    id: u16,
+) -> FlatSetUp
+    ensures { λ r. ⌜ r ≡ hostSetUp (setUp (now (table .entry)) (settings .interfaces) time id) ⌝ }
 {
     let interfaces = settings.interfaces;
     let step = responder::set_up(table, interfaces, time, id);
     let host = flat::flat_host(step.host);
     let came = step.outcome;
     let outcome = outcome::of_host(came);
-    let to = step.to;
-    FlatStep { host, outcome, to }
+    FlatSetUp { host, outcome }
 }
 
-// Starts a name on an interface.
+// Starts a name on an interface that has these names.
 #[no_mangle]
 pub extern "C" fn llmnr_start(
-    mut host: FlatHost,
+    settings: FlatSettings,
+    clock: u64,
+    names: FlatNames,
     table: &[u8],
     interface: usize,
     name: usize,
@@ -59,29 +70,22 @@ pub extern "C" fn llmnr_start(
     id: u16,
     out: &mut [u8],
 ) -> FlatStep
-    ensures { λ r. ⌜ done r (now (out .exit)) ≡ madeFlatOn host interface (startOf (hostOf host) (now (table .entry)) interface name time id (now (out .entry))) ⌝ }
+    ensures { λ r. ⌜ done r (now (out .exit)) ≡ stepOn interface (startOf (seen settings clock names) (now (table .entry)) interface name time id (now (out .entry))) ⌝ }
+    ensures { λ r. ⌜ (r .changed ≡ true → (interface < interfaces) × (r .outcome .name < mostNames)) ⌝ }
 {
     let at = checks::slot(interface);
-    let here = host.interfaces[at];
-    let held = here.names;
-    let seen = flat::seen(host.interfaces, host.clock, flat::names_of(held));
-    let step = responder::start(seen, table, interface, name, time, id, out);
-    let next = step.host;
-    let came = step.outcome;
-    let outcome = outcome::of_host(came);
-    if outcome::tells_name(came, interface) {
-        let after = next.interfaces[at];
-        host.interfaces[at] = flat::with_name(here, after, outcome.name);
-    }
-    host.clock = next.clock;
-    let to = step.to;
-    FlatStep { host, outcome, to }
+    let setting = settings.interfaces[at];
+    let held = names.names;
+    let n = flat::name_at(held, name);
+    flat::step(served::start(setting, clock, n, table, interface, name, time, id, out))
 }
 
-// Takes a datagram that came from an address and port to an address.
+// Takes a datagram that came from an address and port to an address, on an interface that has these names.
 #[no_mangle]
 pub extern "C" fn llmnr_receive(
-    mut host: FlatHost,
+    settings: FlatSettings,
+    clock: u64,
+    names: FlatNames,
     table: &[u8],
     interface: usize,
     from: Endpoint,
@@ -91,52 +95,61 @@ pub extern "C" fn llmnr_receive(
     id: u16,
     out: &mut [u8],
 ) -> FlatStep
-    ensures { λ r. ⌜ done r (now (out .exit)) ≡ madeFlatOn host interface (receiveOf (hostOf host) (record { table = now (table .entry); interface = interface; from = from; to = to; datagram = now (datagram .entry); time = time; id = id; out = now (out .entry) })) ⌝ }
+    ensures { λ r. ⌜ done r (now (out .exit)) ≡ stepOn interface (receiveOf (seen settings clock names) (record { table = now (table .entry); interface = interface; from = from; to = to; datagram = now (datagram .entry); time = time; id = id; out = now (out .entry) })) ⌝ }
+    ensures { λ r. ⌜ (r .changed ≡ true → (interface < interfaces) × (r .outcome .name < mostNames)) ⌝ }
 {
     let at = checks::slot(interface);
-    let here = host.interfaces[at];
-    let held = here.names;
-    let seen = flat::seen(host.interfaces, host.clock, flat::names_of(held));
-    let step = responder::receive(seen, table, interface, from, to, datagram, time, id, out);
-    let next = step.host;
-    let came = step.outcome;
-    let outcome = outcome::of_host(came);
-    if outcome::tells_name(came, interface) {
-        let after = next.interfaces[at];
-        host.interfaces[at] = flat::with_name(here, after, outcome.name);
-    }
-    host.clock = next.clock;
-    let to = step.to;
-    FlatStep { host, outcome, to }
+    let setting = settings.interfaces[at];
+    let held = names.names;
+    let h = heard::hear(
+        out.len(),
+        setting,
+        clock,
+        table,
+        interface,
+        from,
+        to,
+        datagram,
+        time,
+    );
+    let n = flat::name_at(held, h.name);
+    let all = settings.interfaces;
+    flat::step(heard::answer(
+        h,
+        n,
+        all,
+        setting,
+        clock,
+        table,
+        from,
+        datagram,
+        time,
+        id,
+        out,
+    ))
 }
 
-// Serves the lowest-numbered name that is due on an interface.
+// Serves the lowest-numbered name that is due on an interface that has these names.
 #[no_mangle]
 pub extern "C" fn llmnr_tick(
-    mut host: FlatHost,
+    settings: FlatSettings,
+    clock: u64,
+    names: FlatNames,
     table: &[u8],
     interface: usize,
     time: u64,
     id: u16,
     out: &mut [u8],
 ) -> FlatStep
-    ensures { λ r. ⌜ done r (now (out .exit)) ≡ madeFlatOn host interface (tickOf (hostOf host) (now (table .entry)) interface time id (now (out .entry))) ⌝ }
+    ensures { λ r. ⌜ done r (now (out .exit)) ≡ stepOn interface (tickOf (seen settings clock names) (now (table .entry)) interface time id (now (out .entry))) ⌝ }
+    ensures { λ r. ⌜ (r .changed ≡ true → (interface < interfaces) × (r .outcome .name < mostNames)) ⌝ }
 {
     let at = checks::slot(interface);
-    let here = host.interfaces[at];
-    let held = here.names;
-    let seen = flat::seen(host.interfaces, host.clock, flat::names_of(held));
-    let step = responder::tick(seen, table, interface, time, id, out);
-    let next = step.host;
-    let came = step.outcome;
-    let outcome = outcome::of_host(came);
-    if outcome::tells_name(came, interface) {
-        let after = next.interfaces[at];
-        host.interfaces[at] = flat::with_name(here, after, outcome.name);
-    }
-    host.clock = next.clock;
-    let to = step.to;
-    FlatStep { host, outcome, to }
+    let setting = settings.interfaces[at];
+    let held = names.names;
+    let k = flat::find_due(held, time);
+    let n = flat::name_at(held, k);
+    flat::step(served::tick(setting, clock, k, n, table, interface, time, id, out))
 }
 
 // Starts a lookup of a name.

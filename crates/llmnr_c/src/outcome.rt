@@ -1,13 +1,10 @@
 // What a call comes to, as numbers.
 ghost use mathlib.Core.Path.{_≡_};
-ghost use lib.Dec.{ltb};
-ghost use Rattle.octets.specs.Tests.{_and_};
-ghost use Rattle.octets.specs.Bounds.{interfaces};
 ghost use Rattle.refusal.specs.Numbers.{reportOf};
 ghost use Rattle.host.specs.Outcomes.{resultOf};
+ghost use Rattle.responder.specs.Served.{changes};
 ghost use Rattle.lookup.specs.Outcomes.{resultOf as lookupResultOf};
-ghost use Rattle.llmnr_c.specs.Outcomes.{offsetIn, flatRefusal, said as saidOf, heard as heardOf, flatOutcome, tellsName, flatLookupOutcome};
-use octets::Setting;
+ghost use Rattle.llmnr_c.specs.Outcomes.{offsetIn, flatRefusal, said as saidOf, heard as heardOf, flatOutcome, flatLookupOutcome};
 use refusal::Refusal;
 
 // The number of what a call says; with a refusal its number, and its offset if it has one; of a response where its answers begin, and how
@@ -116,16 +113,15 @@ pub(crate) fn of_host(outcome: host::Outcome) -> FlatOutcome
     }
 }
 
-// Whether it tells a name, and the interface of the call is one of the four.
-pub(crate) fn tells_name(outcome: host::Outcome, interface: usize) -> bool
-    ensures { λ r. ⌜ r ≡ (tellsName (resultOf outcome) and ltb interface interfaces) ⌝ }
+// Whether the name that it tells has a new state.
+pub(crate) fn changes_name(outcome: host::Outcome) -> bool
+    ensures { λ r. ⌜ r ≡ changes (resultOf outcome) ⌝ }
 {
     match outcome {
-        host::Outcome::Kept { name: _ } => interface < Setting::COUNT,
-        host::Outcome::Query { name: _, len: _ } => interface < Setting::COUNT,
-        host::Outcome::Unique { name: _ } => interface < Setting::COUNT,
-        host::Outcome::Shared { name: _ } => interface < Setting::COUNT,
-        host::Outcome::Stopped { name: _ } => interface < Setting::COUNT,
+        host::Outcome::Query { name: _, len: _ } => true,
+        host::Outcome::Unique { name: _ } => true,
+        host::Outcome::Shared { name: _ } => true,
+        host::Outcome::Stopped { name: _ } => true,
         _ => false,
     }
 }

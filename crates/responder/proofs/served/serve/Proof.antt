@@ -19,10 +19,9 @@ same-length c = search needs
 
 returns : tie.Need-returns
 returns c = λ h i g f x k.
-    let w = c .before .before .before .write .ensures in
-    (
+    let w = c .before .before .before .write .ensures in (
       rw (c .group-endpoint .ensures, w .0, w .1, c .before .before .before .before .before .octets-of .ensures, ← f)
-      (asked _ _ h _ i _ _ _ (c .before .before .before .before .before .before .if1 .taken) _ g),
+          (asked _ _ h _ i _ _ _ (c .before .before .before .before .before .before .if1 .taken) _ g),
       refl,
     )
 

@@ -105,12 +105,13 @@ returns-4 c = λ h x n.
     let l = f .before .before .before .before .before .if2 .left in
     let m = f .before .before .before .before .before .before .count .ensures in
     let t = s .serve .ensures h (slotOf (given (e .before) .args .interface)) (p .well .good-table) (ap (λ (z : _). z .family) (x .setting)) refl refl in
-    told-on _ _ h _ (given (e .before) .args .k) (p .well .interface) (omega (arith, l, m))
-    (t .0
-    ∙ accepted h _ _ _ _ _ _ _ _ p _ m l
-    (ap (λ (z : NameState). not (isIdle z)) n ∙ ap not (sym (f .before .before .before .before .is-idle .ensures)) ∙ f .before .before .before .if3 .left)
-    _ (f .before .kind-of .ensures) _ (rw (x .setting) (f .first .ensures)),
-    t .1)
+    told-on _ _ h _ (given (e .before) .args .k) (p .well .interface) (omega (arith, l, m)) (
+      t .0
+          ∙ accepted h _ _ _ _ _ _ _ _ p _ m l
+          (ap (λ (z : NameState). not (isIdle z)) n ∙ ap not (sym (f .before .before .before .before .is-idle .ensures)) ∙ f .before .before .before .if3 .left)
+          _ (f .before .kind-of .ensures) _ (rw (x .setting) (f .first .ensures)),
+      t .1,
+    )
 
 pub start-spec : {M : Type 1} → statement M
 start-spec =

@@ -89,10 +89,11 @@ returns-3 c = λ h x d n.
     let l = f .before .if2 .left in
     let m = f .before .before .count .ensures in
     let t = s .serve .ensures h (slotOf (given (e .before) .args .interface)) (p .well .good-table) (ap (λ (z : _). z .family) (x .setting)) refl refl in
-    told-on _ _ h _ (given (e .before) .args .k) (p .well .interface) (omega (arith, l, m))
-    (t .0
-    ∙ one-due h _ _ _ _ _ _ _ p _ m _ (due-among _ _ _ _ _ (few _ _ m) d) l _ (rw (x .setting, n) (f .again .ensures)),
-    t .1)
+    told-on _ _ h _ (given (e .before) .args .k) (p .well .interface) (omega (arith, l, m)) (
+      t .0
+          ∙ one-due h _ _ _ _ _ _ _ p _ m _ (due-among _ _ _ _ _ (few _ _ m) d) l _ (rw (x .setting, n) (f .again .ensures)),
+      t .1,
+    )
 
 pub tick-spec : {M : Type 1} → statement M
 tick-spec =
