@@ -22,6 +22,7 @@ enum { TYPE_A = 1, IPV4 = 4 };
 
 static const llmnr_endpoint indicator = {{IPV4, {192, 0, 2, 17}}, LLMNR_PORT};
 static const llmnr_endpoint terminal = {{IPV4, {192, 0, 2, 5}}, 50000};
+static const llmnr_endpoint nowhere = {{0, {0}}, 0};
 
 /* One interface with this address, and an interval of 100 ms; the other three are unused. */
 static llmnr_settings settings_of(llmnr_address address)
@@ -92,16 +93,20 @@ int main(void)
     printf("table: %s, names %zu\n", check.good ? "good" : "bad", check.names);
 
     /* The indicator: set-up, start, and a tick whenever the name is due, until it owns the name. */
-    llmnr_step host = llmnr_set_up(table, sizeof table, settings_of(indicator.address), now, fresh_id());
-    tell("indicator", "set-up", host.outcome, host.to);
-    if (host.outcome.what != LLMNR_READY)
+    llmnr_set_up_step ready = llmnr_set_up(table, sizeof table, settings_of(indicator.address), now, fresh_id());
+    tell("indicator", "set-up", ready.outcome, nowhere);
+    if (ready.outcome.what != LLMNR_READY)
         return 1;
-    host = llmnr_start(host.host, table, sizeof table, 0, 0, now, fresh_id(), out, sizeof out);
-    tell("indicator", "start", host.outcome, host.to);
-    while (host.outcome.what == LLMNR_QUERY) {
-        now = host.host.interfaces[0].names[0].due;
-        host = llmnr_tick(host.host, table, sizeof table, 0, now, fresh_id(), out, sizeof out);
-        tell("indicator", "tick", host.outcome, host.to);
+    llmnr_host host = ready.host;
+    llmnr_step step = llmnr_start(host.settings, host.clock, host.interfaces[0], table, sizeof table, 0, 0, now, fresh_id(), out,
+                                  sizeof out);
+    llmnr_take(&host, 0, step);
+    tell("indicator", "start", step.outcome, step.to);
+    while (step.outcome.what == LLMNR_QUERY) {
+        now = host.interfaces[0].names[0].due;
+        step = llmnr_tick(host.settings, host.clock, host.interfaces[0], table, sizeof table, 0, now, fresh_id(), out, sizeof out);
+        llmnr_take(&host, 0, step);
+        tell("indicator", "tick", step.outcome, step.to);
     }
 
     /* The terminal asks. Its query goes to the group, and so to the indicator. */
@@ -111,18 +116,19 @@ int main(void)
     if (asked.outcome.what != LLMNR_QUERY)
         return 1;
     memcpy(heard, out, asked.outcome.len);
-    host = llmnr_receive(host.host, table, sizeof table, 0, terminal, asked.to.address, heard, asked.outcome.len, now, fresh_id(), out,
-                         sizeof out);
-    tell("indicator", "receive", host.outcome, host.to);
-    if (host.outcome.what != LLMNR_REPLY)
+    step = llmnr_receive(host.settings, host.clock, host.interfaces[0], table, sizeof table, 0, terminal, asked.to.address, heard,
+                         asked.outcome.len, now, fresh_id(), out, sizeof out);
+    llmnr_take(&host, 0, step);
+    tell("indicator", "receive", step.outcome, step.to);
+    if (step.outcome.what != LLMNR_REPLY)
         return 1;
 
     /* The reply goes back to the terminal. */
-    memcpy(heard, out, host.outcome.len);
-    asked = llmnr_lookup_receive(asked.lookup, indicator, host.to.address, heard, host.outcome.len, now, fresh_id(), out, sizeof out);
+    memcpy(heard, out, step.outcome.len);
+    asked = llmnr_lookup_receive(asked.lookup, indicator, step.to.address, heard, step.outcome.len, now, fresh_id(), out, sizeof out);
     tell("terminal", "receive", asked.outcome, asked.to);
     if (asked.outcome.what != LLMNR_FOUND)
         return 1;
-    tell_addresses(heard, host.outcome.len, asked.outcome);
+    tell_addresses(heard, step.outcome.len, asked.outcome);
     return 0;
 }

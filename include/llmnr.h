@@ -1,8 +1,9 @@
 /*
  * LLMNR (RFC 4795) for C: the calls of a host, which answers for its names, and of a lookup, which asks for one.
  *
- * Every call takes the state by value and gives the next state by value. The library has no state of its own: no heap, no globals, no
- * locks, no system calls. Any number of hosts and lookups may live side by side, and calls on different ones may run at the same time.
+ * Every call takes the state that it needs by value and gives what is new of it by value; of a host that is one name and the clock. The
+ * library has no state of its own: no heap, no globals, no locks, no system calls. Any number of hosts and lookups may live side by side,
+ * and calls on different ones may run at the same time.
  *
  * Each call is proved to do what the library's definition says on the state that the struct stands for, for every value of every field.
  * docs/RULES.md says what that is. Rule numbers below (P3, K4) are of that page.
@@ -13,8 +14,8 @@
  * - `out` overlaps no other octets of the same call. It has LLMNR_ROOM octets or more, or the call is refused.
  * - `time` is in milliseconds, from one clock that never goes back, and at most LLMNR_LATEST.
  * - `id` is fresh for each call, best drawn at random. It is used if the call begins a query of its own.
- * - Every field of a struct is set, for example by `= {0}`: a host with all interfaces unused, or an ended lookup. Structs are compared field
- *   by field, since what stands between the fields is left open.
+ * - Every field of a struct is set, for example by `= {0}`: a host with all interfaces unused, or an ended lookup. Structs are compared
+ *   field by field, since what stands between the fields is left open.
  * - A call takes up to 8 KiB of stack, with the structs that it is given.
  *
  * Link with libllmnr_c.a, for x86-64. It needs nothing but memcpy and memset of the C library.
@@ -34,6 +35,8 @@ extern "C" {
 #define LLMNR_NAMES 8       /* of a name table */
 #define LLMNR_LONGEST 255   /* octets of a name, with its length octets and the final zero */
 #define LLMNR_ROOM 512      /* octets of `out` that a call needs */
+#define LLMNR_TABLE 4096    /* octets of a name table, at the most */
+#define LLMNR_DATAGRAM 9194 /* octets of a datagram that is read, at the most */
 #define LLMNR_PORT 5355     /* UDP port of hosts */
 #define LLMNR_LATEST UINT64_C(281474976710655) /* the latest time, 2^48 - 1 */
 
@@ -136,48 +139,70 @@ typedef struct llmnr_name {
     uint64_t due;    /* when to tick */
 } llmnr_name;
 
-typedef struct llmnr_interface {
-    llmnr_setting setting;
-    llmnr_name names[LLMNR_NAMES]; /* in the table's order */
-} llmnr_interface;
+/* The names of one interface, in the table's order. */
+typedef struct llmnr_names {
+    llmnr_name names[LLMNR_NAMES];
+} llmnr_names;
 
 /*
- * The whole state of a host. Keep the one of the last step, and hand it to the next call. clock is the last accepted time. A call changes
- * the clock and the name that its outcome tells, and nothing else: not a field of another name, whatever it holds.
+ * The whole state of a host. clock is the last accepted time. Hand the settings, the clock and the names of one interface to a call on that
+ * interface, and take the step that it gives into the host before the next call:
+ *
+ *     llmnr_step s = llmnr_tick(host.settings, host.clock, host.interfaces[i], table, table_len, i, time, id, out, sizeof out);
+ *     llmnr_take(&host, i, s);
+ *
+ * What a call comes to depends on no name of another interface.
  */
 typedef struct llmnr_host {
-    llmnr_interface interfaces[LLMNR_INTERFACES];
+    llmnr_settings settings;
+    llmnr_names interfaces[LLMNR_INTERFACES];
     uint64_t clock;
 } llmnr_host;
 
-/* The next state, the outcome, and where to send; `to` is all zero unless the outcome is a query or a reply. */
+/* What a call comes to on one interface: at most one name has a new state, and the clock may have moved. */
 typedef struct llmnr_step {
-    llmnr_host host;
+    uint64_t clock;        /* of the host, after the call; as it was if refused */
+    llmnr_name name;       /* if changed: the name with number outcome.name, after the call; else all zero */
     llmnr_outcome outcome;
-    llmnr_endpoint to;
+    llmnr_endpoint to;     /* where to send; all zero unless the outcome is a query or a reply */
+    bool changed;          /* whether the name has a new state: exactly if the outcome is QUERY, UNIQUE, SHARED or STOPPED */
 } llmnr_step;
 
+/* Takes a step into the host whose settings, clock and names of this interface it was made of. Of a refused one the host stays as it is. */
+static inline void llmnr_take(llmnr_host *host, size_t interface, llmnr_step step)
+{
+    host->clock = step.clock;
+    if (step.changed)
+        host->interfaces[interface].names[step.outcome.name] = step.name;
+}
+
+/* A new host, and whether it is ready. */
+typedef struct llmnr_set_up_step {
+    llmnr_host host;
+    llmnr_outcome outcome;
+} llmnr_set_up_step;
+
 /* Makes a host, with all names Off: READY, or refused (2, 4, 20). A refused one is all zero. It needs no buffer. */
-llmnr_step llmnr_set_up(const uint8_t *table, size_t table_len, llmnr_settings settings, uint64_t time, uint16_t id);
+llmnr_set_up_step llmnr_set_up(const uint8_t *table, size_t table_len, llmnr_settings settings, uint64_t time, uint16_t id);
 
 /* Begins to use a name of the table on an interface. A unique one: QUERY, to be sent. A shared one: SHARED. */
-llmnr_step llmnr_start(llmnr_host host, const uint8_t *table, size_t table_len, size_t interface, size_t name, uint64_t time,
-                       uint16_t id, uint8_t *out, size_t out_len);
+llmnr_step llmnr_start(llmnr_settings settings, uint64_t clock, llmnr_names names, const uint8_t *table, size_t table_len,
+                       size_t interface, size_t name, uint64_t time, uint16_t id, uint8_t *out, size_t out_len);
 
 /*
  * Takes a datagram that came on an interface, with its source address and port and its destination address: REPLY or QUERY, to be sent;
  * KEPT; STOPPED; or refused, for most of what other hosts say.
  */
-llmnr_step llmnr_receive(llmnr_host host, const uint8_t *table, size_t table_len, size_t interface, llmnr_endpoint from,
-                         llmnr_address to, const uint8_t *datagram, size_t datagram_len, uint64_t time, uint16_t id, uint8_t *out,
-                         size_t out_len);
+llmnr_step llmnr_receive(llmnr_settings settings, uint64_t clock, llmnr_names names, const uint8_t *table, size_t table_len,
+                         size_t interface, llmnr_endpoint from, llmnr_address to, const uint8_t *datagram, size_t datagram_len,
+                         uint64_t time, uint16_t id, uint8_t *out, size_t out_len);
 
 /*
  * Serves one name that is due on an interface: QUERY, to be sent; UNIQUE; or QUIET. Call it when the least `due` of the interface's
  * Verifying and Defending names has come, and again until it is QUIET or refused. Hand over the datagrams that have come before.
  */
-llmnr_step llmnr_tick(llmnr_host host, const uint8_t *table, size_t table_len, size_t interface, uint64_t time, uint16_t id,
-                      uint8_t *out, size_t out_len);
+llmnr_step llmnr_tick(llmnr_settings settings, uint64_t clock, llmnr_names names, const uint8_t *table, size_t table_len,
+                      size_t interface, uint64_t time, uint16_t id, uint8_t *out, size_t out_len);
 
 /* ---- a lookup ---- */
 

@@ -1,6 +1,6 @@
 /*
- * The constants of include/llmnr.h against the archive: a call for each outcome, each refusal, each state of a name and each phase of a lookup.
- * What a state is shows in what the host does in it.
+ * The constants of include/llmnr.h against the archive: a call for each outcome, each refusal, each state of a name, each phase of a lookup
+ * and the longest datagram and table. What a state is shows in what the host does in it.
  */
 #include "check.h"
 
@@ -41,16 +41,25 @@ static llmnr_host in_state(uint8_t state)
     return h;
 }
 
+static llmnr_step starts(llmnr_host h, size_t name, uint64_t time, uint16_t id)
+{
+    return llmnr_start(h.settings, h.clock, h.interfaces[1], table, sizeof table, 1, name, time, id, out, sizeof out);
+}
+
+static llmnr_step receives(llmnr_host h, llmnr_endpoint from, llmnr_address to, size_t len, uint64_t time)
+{
+    return llmnr_receive(h.settings, h.clock, h.interfaces[1], table, sizeof table, 1, from, to, datagram, len, time, 7, out, sizeof out);
+}
+
 static llmnr_step hears(llmnr_host h, uint16_t flags, llmnr_endpoint from)
 {
     make_query(datagram, 0x1234, flags, 5);
-    return llmnr_receive(h, table, sizeof table, 1, from, flags & RESPONSE ? ours : group, datagram, sizeof datagram, 500, 7, out,
-                         sizeof out);
+    return receives(h, from, flags & RESPONSE ? ours : group, QUERY, 500);
 }
 
 static llmnr_step ticks(llmnr_host h, uint64_t time)
 {
-    return llmnr_tick(h, table, sizeof table, 1, time, 7, out, sizeof out);
+    return llmnr_tick(h.settings, h.clock, h.interfaces[1], table, sizeof table, 1, time, 7, out, sizeof out);
 }
 
 static int refused(llmnr_outcome o, uint8_t refusal)
@@ -82,25 +91,27 @@ static void states(void)
         CHECK(refused(hears(in_state((uint8_t)other), 0, lower).outcome, LLMNR_REFUSAL_NOT_OURS));
 
     llmnr_step s = ticks(in_state(LLMNR_STATE_UNIQUE), 1000);
-    CHECK(says(s.outcome, LLMNR_QUIET) && s.host.clock == 1000);
+    CHECK(says(s.outcome, LLMNR_QUIET) && s.clock == 1000 && !s.changed);
     s = ticks(in_state(LLMNR_STATE_DEFENDING), 999);
-    CHECK(says(s.outcome, LLMNR_QUIET) && s.host.interfaces[1].names[5].state == LLMNR_STATE_DEFENDING);
+    CHECK(says(s.outcome, LLMNR_QUIET) && s.clock == 999 && !s.changed);
     s = ticks(in_state(LLMNR_STATE_DEFENDING), 1000);
-    CHECK(says(s.outcome, LLMNR_UNIQUE) && s.outcome.name == 5 && s.host.interfaces[1].names[5].state == LLMNR_STATE_UNIQUE);
-    s = ticks(in_state(LLMNR_STATE_VERIFYING), 1000);
+    CHECK(says(s.outcome, LLMNR_UNIQUE) && s.outcome.name == 5 && s.changed && s.name.state == LLMNR_STATE_UNIQUE);
+    llmnr_host h = in_state(LLMNR_STATE_VERIFYING);
+    s = ticks(h, 1000);
     CHECK(says(s.outcome, LLMNR_QUERY) && s.outcome.name == 5 && s.outcome.len == QUERY && out[0] == 0x12 && out[1] == 0x34);
-    llmnr_name n = s.host.interfaces[1].names[5];
+    llmnr_name n = s.name;
     CHECK(n.state == LLMNR_STATE_VERIFYING && n.sends == 3 && n.id == 0x1234 && n.qtype == 0 && n.qclass == 0 && n.due == 1100);
-    s = ticks(s.host, 1100);
-    CHECK(says(s.outcome, LLMNR_UNIQUE) && s.host.interfaces[1].names[5].due == 0);
+    llmnr_take(&h, 1, s);
+    s = ticks(h, 1100);
+    CHECK(says(s.outcome, LLMNR_UNIQUE) && s.changed && s.name.state == LLMNR_STATE_UNIQUE && s.name.due == 0);
 }
 
 /* The type and the class of a defence each count. */
 static void defence(void)
 {
     llmnr_step s = hears(in_state(LLMNR_STATE_UNIQUE), CONFLICT, lower);
-    llmnr_name n = s.host.interfaces[1].names[5];
-    CHECK(says(s.outcome, LLMNR_QUERY) && s.outcome.name == 5 && s.to.port == LLMNR_PORT && s.to.address.octets[3] == 252);
+    llmnr_name n = s.name;
+    CHECK(says(s.outcome, LLMNR_QUERY) && s.changed && s.outcome.name == 5 && s.to.port == LLMNR_PORT && s.to.address.octets[3] == 252);
     CHECK(n.state == LLMNR_STATE_DEFENDING && n.id == 7 && n.qtype == 1 && n.qclass == 1 && n.due == 600);
     CHECK(says(hears(in_state(LLMNR_STATE_DEFENDING), RESPONSE, lower).outcome, LLMNR_STOPPED));
     CHECK(says(hears(in_state(LLMNR_STATE_DEFENDING), RESPONSE, higher).outcome, LLMNR_KEPT));
@@ -120,33 +131,42 @@ static void defence(void)
 
 static void outcomes(void)
 {
-    llmnr_step s = llmnr_set_up(table, sizeof table, settings(), 3, 4);
-    CHECK(says(s.outcome, LLMNR_READY) && s.host.clock == 3);
-    s = llmnr_start(s.host, table, sizeof table, 1, 5, 4, 0x1234, out, sizeof out);
+    llmnr_set_up_step ready = llmnr_set_up(table, sizeof table, settings(), 3, 4);
+    llmnr_host h = ready.host;
+    CHECK(says(ready.outcome, LLMNR_READY) && h.clock == 3);
+    llmnr_step s = starts(h, 5, 4, 0x1234);
     CHECK(says(s.outcome, LLMNR_QUERY) && s.outcome.name == 5 && s.outcome.len == QUERY);
-    CHECK(s.host.interfaces[1].names[5].state == LLMNR_STATE_VERIFYING && s.host.interfaces[1].names[5].due == 104);
-    CHECK(refused(llmnr_start(s.host, table, sizeof table, 1, 5, 4, 1, out, sizeof out).outcome, LLMNR_REFUSAL_BUSY));
-    s = llmnr_start(s.host, table, sizeof table, 1, 7, 5, 1, out, sizeof out);
+    CHECK(s.changed && s.name.state == LLMNR_STATE_VERIFYING && s.name.due == 104);
+    llmnr_take(&h, 1, s);
+    CHECK(refused(starts(h, 5, 4, 1).outcome, LLMNR_REFUSAL_BUSY));
+    s = starts(h, 7, 5, 1);
     CHECK(says(s.outcome, LLMNR_SHARED) && s.outcome.name == 7 && s.outcome.len == 0);
-    CHECK(s.host.interfaces[1].names[7].state == LLMNR_STATE_SHARED);
-    CHECK(refused(llmnr_start(s.host, table, sizeof table, 1, 8, 5, 1, out, sizeof out).outcome, LLMNR_REFUSAL_NOT_OURS));
+    CHECK(s.changed && s.name.state == LLMNR_STATE_SHARED);
+    llmnr_take(&h, 1, s);
+    CHECK(refused(starts(h, 8, 5, 1).outcome, LLMNR_REFUSAL_NOT_OURS));
     make_query(datagram, 0x1234, RESPONSE | TENTATIVE, 5);
     datagram[TYPE] = 255;
-    s = llmnr_receive(s.host, table, sizeof table, 1, higher, ours, datagram, sizeof datagram, 6, 1, out, sizeof out);
-    CHECK(says(s.outcome, LLMNR_KEPT) && s.outcome.name == 5);
-    s = llmnr_receive(s.host, table, sizeof table, 1, lower, ours, datagram, sizeof datagram, 6, 1, out, sizeof out);
+    s = receives(h, higher, ours, QUERY, 6);
+    CHECK(says(s.outcome, LLMNR_KEPT) && s.outcome.name == 5 && s.clock == 6 && !s.changed);
+    llmnr_take(&h, 1, s);
+    s = receives(h, lower, ours, QUERY, 6);
     CHECK(says(s.outcome, LLMNR_STOPPED) && s.outcome.name == 5);
-    CHECK(s.host.interfaces[1].names[5].state == LLMNR_STATE_STOPPED && s.host.interfaces[1].names[5].id == 0);
+    CHECK(s.changed && s.name.state == LLMNR_STATE_STOPPED && s.name.id == 0);
 }
 
 /* ---- refusals of a host, 1 to 16 and 20 */
 
-static llmnr_outcome changed(unsigned at, uint8_t octet, uint16_t flags, llmnr_endpoint from)
+static llmnr_outcome altered(unsigned at, uint8_t octet, uint16_t flags, llmnr_endpoint from)
 {
     make_query(datagram, 0x1234, flags, 5);
     datagram[at] = octet;
-    return llmnr_receive(in_state(LLMNR_STATE_VERIFYING), table, sizeof table, 1, from, flags & RESPONSE ? ours : group, datagram,
-                         sizeof datagram, 500, 7, out, sizeof out).outcome;
+    return receives(in_state(LLMNR_STATE_VERIFYING), from, flags & RESPONSE ? ours : group, QUERY, 500).outcome;
+}
+
+static llmnr_outcome tick_with(size_t table_len, size_t interface, size_t out_len)
+{
+    llmnr_host h = in_state(LLMNR_STATE_UNIQUE);
+    return llmnr_tick(h.settings, h.clock, h.interfaces[1], table, table_len, interface, 0, 0, out, out_len).outcome;
 }
 
 static void refusals(void)
@@ -154,31 +174,46 @@ static void refusals(void)
     llmnr_host h = in_state(LLMNR_STATE_UNIQUE);
     llmnr_endpoint self = {ours, LLMNR_PORT};
     llmnr_settings bad = settings();
-    CHECK(refused(llmnr_tick(h, table, sizeof table, 1, 0, 0, out, LLMNR_ROOM - 1).outcome, LLMNR_REFUSAL_ROOM));
-    llmnr_outcome o = llmnr_tick(h, table, sizeof table - 1, 1, 0, 0, out, sizeof out).outcome;
+    CHECK(refused(tick_with(sizeof table, 1, LLMNR_ROOM - 1), LLMNR_REFUSAL_ROOM));
+    llmnr_outcome o = tick_with(sizeof table - 1, 1, LLMNR_ROOM);
     CHECK(refused(o, LLMNR_REFUSAL_TABLE) && o.at == ENTRIES - 8);
     o = llmnr_set_up(table, sizeof table - 1, settings(), 0, 0).outcome;
     CHECK(refused(o, LLMNR_REFUSAL_TABLE) && o.at == ENTRIES - 8);
-    CHECK(refused(llmnr_tick(h, table, sizeof table, 0, 0, 0, out, sizeof out).outcome, LLMNR_REFUSAL_INTERFACE));
-    CHECK(refused(llmnr_tick(h, table, sizeof table, 5, 0, 0, out, sizeof out).outcome, LLMNR_REFUSAL_INTERFACE));
-    CHECK(refused(llmnr_tick(h, table, sizeof table, 1, LLMNR_LATEST + 1, 0, out, sizeof out).outcome, LLMNR_REFUSAL_CLOCK));
-    CHECK(says(llmnr_tick(h, table, sizeof table, 1, LLMNR_LATEST, 0, out, sizeof out).outcome, LLMNR_QUIET));
-    o = llmnr_receive(h, table, sizeof table, 1, lower, group, datagram, 11, 0, 0, out, sizeof out).outcome;
-    CHECK(refused(o, LLMNR_REFUSAL_LENGTH));
-    CHECK(refused(changed(FLAGS, 0x08, 0, lower), LLMNR_REFUSAL_OPCODE));
-    CHECK(refused(changed(FLAGS + 1, 0x03, RESPONSE, lower), LLMNR_REFUSAL_RCODE));
-    CHECK(refused(changed(QDCOUNT, 2, 0, lower), LLMNR_REFUSAL_COUNTS));
-    CHECK(refused(changed(LABEL, 64, 0, lower), LLMNR_REFUSAL_QUESTION));
-    CHECK(refused(changed(CLASS, 3, 0, lower), LLMNR_REFUSAL_CLASS));
-    CHECK(refused(changed(LABEL + 1, 'x', 0, lower), LLMNR_REFUSAL_NOT_OURS));
-    CHECK(refused(changed(FLAGS, 0x04, 0, lower), LLMNR_REFUSAL_NOTIFICATION));
-    CHECK(refused(changed(ID, 0x35, RESPONSE, lower), LLMNR_REFUSAL_UNMATCHED));
-    CHECK(refused(changed(TYPE, 255, RESPONSE, self), LLMNR_REFUSAL_OWN));
+    CHECK(refused(tick_with(sizeof table, 0, LLMNR_ROOM), LLMNR_REFUSAL_INTERFACE));
+    CHECK(refused(tick_with(sizeof table, LLMNR_INTERFACES, LLMNR_ROOM), LLMNR_REFUSAL_INTERFACE));
+    CHECK(refused(tick_with(sizeof table, SIZE_MAX, LLMNR_ROOM), LLMNR_REFUSAL_INTERFACE));
+    CHECK(refused(ticks(h, LLMNR_LATEST + 1).outcome, LLMNR_REFUSAL_CLOCK));
+    CHECK(says(ticks(h, LLMNR_LATEST).outcome, LLMNR_QUIET));
+    CHECK(refused(receives(h, lower, group, 11, 0).outcome, LLMNR_REFUSAL_LENGTH));
+    CHECK(refused(altered(FLAGS, 0x08, 0, lower), LLMNR_REFUSAL_OPCODE));
+    CHECK(refused(altered(FLAGS + 1, 0x03, RESPONSE, lower), LLMNR_REFUSAL_RCODE));
+    CHECK(refused(altered(QDCOUNT, 2, 0, lower), LLMNR_REFUSAL_COUNTS));
+    CHECK(refused(altered(LABEL, 64, 0, lower), LLMNR_REFUSAL_QUESTION));
+    CHECK(refused(altered(CLASS, 3, 0, lower), LLMNR_REFUSAL_CLASS));
+    CHECK(refused(altered(LABEL + 1, 'x', 0, lower), LLMNR_REFUSAL_NOT_OURS));
+    CHECK(refused(altered(FLAGS, 0x04, 0, lower), LLMNR_REFUSAL_NOTIFICATION));
+    CHECK(refused(altered(ID, 0x35, RESPONSE, lower), LLMNR_REFUSAL_UNMATCHED));
+    CHECK(refused(altered(TYPE, 255, RESPONSE, self), LLMNR_REFUSAL_OWN));
     make_query(datagram, 0x1234, 0, 5);
-    o = llmnr_receive(h, table, sizeof table, 1, lower, ours, datagram, sizeof datagram, 0, 0, out, sizeof out).outcome;
-    CHECK(refused(o, LLMNR_REFUSAL_ADDRESS));
+    CHECK(refused(receives(h, lower, ours, QUERY, 0).outcome, LLMNR_REFUSAL_ADDRESS));
     bad.interfaces[1].interval = 99;
     CHECK(refused(llmnr_set_up(table, sizeof table, bad, 0, 0).outcome, LLMNR_REFUSAL_SETTINGS));
+}
+
+/* ---- the longest datagram and the longest table */
+
+static void longest(void)
+{
+    static uint8_t octets[LLMNR_DATAGRAM + 1], entries[LLMNR_TABLE + 1];
+    llmnr_host h = in_state(LLMNR_STATE_UNIQUE);
+    make_query(octets, 0x1234, 0, 5);
+    for (size_t more = 0; more < 2; more++) {
+        llmnr_outcome o = llmnr_receive(h.settings, h.clock, h.interfaces[1], table, sizeof table, 1, lower, group, octets,
+                                        LLMNR_DATAGRAM + more, 0, 0, out, sizeof out).outcome;
+        CHECK(more == 0 ? says(o, LLMNR_REPLY) : refused(o, LLMNR_REFUSAL_LENGTH));
+        llmnr_table_check t = llmnr_check_table(entries, LLMNR_TABLE + more);
+        CHECK(!t.good && t.at == (more == 0 ? 0 : LLMNR_TABLE));
+    }
 }
 
 /* ---- a lookup: its outcomes, its phases, and 10, 17 and 18 */
@@ -234,6 +269,7 @@ int main(void)
     defence();
     outcomes();
     refusals();
+    longest();
     lookups();
     return told("constants");
 }
