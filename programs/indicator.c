@@ -47,7 +47,7 @@ static const char help[] =
 typedef struct indicator {
     bool verbose;
     uint16_t interval;
-    uint8_t table[TABLE_MOST + 1];
+    uint8_t table[LLMNR_TABLE + 1];
     size_t table_len;
     size_t names;
     net_interface used[LLMNR_INTERFACES];
@@ -142,20 +142,19 @@ static void send_out(const indicator *me, size_t i, const llmnr_step *step)
 static void act(indicator *me, size_t i, const llmnr_step *step, const llmnr_endpoint *from)
 {
     const llmnr_outcome *outcome = &step->outcome;
-    const llmnr_name *name = &me->host.interfaces[i].names[outcome->name];
-    uint8_t before = name->state;
+    bool another = step->changed && step->name.state != me->host.interfaces[i].names[outcome->name].state;
 
-    me->host = step->host;
+    llmnr_take(&me->host, i, *step);
     if (outcome->what == LLMNR_QUERY || outcome->what == LLMNR_REPLY)
         send_out(me, i, step);
-    if (name->state != before)
+    if (another)
         print_change(me, i, outcome->name, from);
 }
 
 static void set_up(indicator *me)
 {
     llmnr_settings settings = {{{0}}};
-    llmnr_step step;
+    llmnr_set_up_step step;
     size_t i;
 
     for (i = 0; i < me->count; i++) {
@@ -175,7 +174,8 @@ static void start_names(indicator *me)
 
     for (i = 0; i < me->count; i++) {
         for (number = 0; number < me->names; number++) {
-            llmnr_step step = llmnr_start(me->host, me->table, me->table_len, i, number, net_time(), fresh_id(), me->out, sizeof me->out);
+            llmnr_step step = llmnr_start(me->host.settings, me->host.clock, me->host.interfaces[i], me->table, me->table_len, i,
+                                          number, net_time(), fresh_id(), me->out, sizeof me->out);
 
             if (step.outcome.what == LLMNR_REFUSED)
                 fail(FAILED_REFUSED, "the library refused the start of name %zu with %d", number, step.outcome.refusal);
@@ -196,8 +196,8 @@ static void hand_over(indicator *me, uint8_t family, uint64_t time)
             break;
     if (i == me->count)
         return;
-    step = llmnr_receive(me->host, me->table, me->table_len, i, d->from, d->to, d->octets, d->len, time, fresh_id(), me->out,
-                         sizeof me->out);
+    step = llmnr_receive(me->host.settings, me->host.clock, me->host.interfaces[i], me->table, me->table_len, i, d->from, d->to,
+                         d->octets, d->len, time, fresh_id(), me->out, sizeof me->out);
     if (me->verbose)
         print_datagram(me, i, &step.outcome);
     act(me, i, &step, &d->from);
@@ -241,7 +241,8 @@ static void serve(indicator *me, size_t i, uint64_t time)
     if (due_on(me, i) > time)
         return;
     do {
-        step = llmnr_tick(me->host, me->table, me->table_len, i, time, fresh_id(), me->out, sizeof me->out);
+        step = llmnr_tick(me->host.settings, me->host.clock, me->host.interfaces[i], me->table, me->table_len, i, time, fresh_id(),
+                          me->out, sizeof me->out);
         if (step.outcome.what == LLMNR_REFUSED)
             fail(FAILED_REFUSED, "the library refused a tick with %d", step.outcome.refusal);
         act(me, i, &step, NULL);

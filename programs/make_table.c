@@ -49,7 +49,7 @@ static const struct {
 
 /* A table that grows line by line. It has room for one entry more than fits. */
 typedef struct maker {
-    uint8_t table[TABLE_MOST + TABLE_HEAD + LLMNR_LONGEST];
+    uint8_t table[LLMNR_TABLE + TABLE_HEAD + LLMNR_LONGEST];
     size_t len;
     size_t names;
     size_t line; /* number of the line that is being read */
@@ -80,7 +80,7 @@ static const char *reason(const maker *m, size_t at)
 {
     unsigned kind = table_kind(m->table, at);
 
-    if (m->len > TABLE_MOST)
+    if (m->len > LLMNR_TABLE)
         return "with this line the table has more than 4096 octets";
     if (!table_is_name(kind))
         return m->names == 0 ? "a record before any name" : "a 25th record; a name has at most 24";
@@ -187,7 +187,7 @@ static void print_entry(const uint8_t *table, size_t at)
 
 static void back(const char *path)
 {
-    static uint8_t table[TABLE_MOST + 1];
+    static uint8_t table[LLMNR_TABLE + 1];
     size_t names, len = table_load(path, table, &names), at;
 
     for (at = 0; at < len; at += table_length(table, at))

@@ -12,7 +12,7 @@
 #include "llmnr.h"
 
 /* One octet more than the longest datagram that is read (L3): a longer one is then refused with 5, and not cut and read. */
-#define NET_DATAGRAM 9195
+#define NET_DATAGRAM (LLMNR_DATAGRAM + 1)
 
 /* At most so many datagrams wait in a socket, by the size of its buffer: after as many, all that had come before the first are taken. */
 #define NET_WAITING 4096

@@ -17,13 +17,13 @@ size_t table_load(const char *path, uint8_t *table, size_t *names)
     if (file == NULL)
         fail(FAILED_FILE, "%s: %s", path, strerror(errno));
     /* One octet more than a table may have tells a longer one. */
-    len = fread(table, 1, TABLE_MOST + 1, file);
+    len = fread(table, 1, LLMNR_TABLE + 1, file);
     if (ferror(file))
         fail(FAILED_FILE, "%s: %s", path, strerror(errno));
     fclose(file);
     check = llmnr_check_table(table, len);
-    if (!check.good && len > TABLE_MOST)
-        fail(FAILED_TABLE, "%s: more than %d octets, so no name table", path, TABLE_MOST);
+    if (!check.good && len > LLMNR_TABLE)
+        fail(FAILED_TABLE, "%s: more than %d octets, so no name table", path, LLMNR_TABLE);
     if (!check.good)
         fail(FAILED_TABLE, "%s: no good name table: the entry at offset %zu is bad", path, check.at);
     *names = check.names;

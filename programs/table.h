@@ -4,14 +4,13 @@
 
 #include "llmnr.h"
 
-#define TABLE_MOST 4096 /* octets of a table */
-#define TABLE_HEAD 4    /* octets of an entry before its body: its length and its kind */
+#define TABLE_HEAD 4 /* octets of an entry before its body: its length and its kind */
 
 /* Kinds of entries. */
 enum { TABLE_UNIQUE = 1, TABLE_SHARED = 2, TABLE_A = 3, TABLE_AAAA = 4, TABLE_PTR = 5 };
 
 /*
- * Reads a file into TABLE_MOST + 1 octets and checks it. Gives its length, and in *names how many names it has. Ends the program if the
+ * Reads a file into LLMNR_TABLE + 1 octets and checks it. Gives its length, and in *names how many names it has. Ends the program if the
  * file cannot be read or is no good table.
  */
 size_t table_load(const char *path, uint8_t *table, size_t *names);
