@@ -1,5 +1,5 @@
 #!/usr/bin/env bash
-# Holds the plain responder, in both its forms, against an independent program on random call files: every line must be the same.
+# Holds the plain responder, by value and by &mut, against an independent program on random call files: every line must be the same.
 # usage: check.sh [FILES] [FIRST SEED]        SECOND: the other program (../target/second/release/second)
 set -eu
 cd "$(dirname "$0")"

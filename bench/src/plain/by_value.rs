@@ -1,4 +1,4 @@
-//! The calls on a state that is passed and returned by value, as the proved library's are.
+//! The calls on a state that is passed and returned by value.
 
 use super::host;
 use super::lookup;

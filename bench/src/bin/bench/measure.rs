@@ -18,9 +18,15 @@ pub struct Implementation {
     pub stack: fn(&Case) -> Option<usize>,
 }
 
-pub const IMPLEMENTATIONS: [Implementation; 3] = [
+pub const IMPLEMENTATIONS: [Implementation; 4] = [
     Implementation { key: "proved", title: "proved, from C", run: proved_runs::run, stack: proved_runs::stack },
     Implementation { key: "value", title: "plain, by value", run: plain_runs::by_value, stack: plain_stacks::by_value },
+    Implementation {
+        key: "c",
+        title: "plain, C by value",
+        run: plain_runs::c_by_value,
+        stack: plain_stacks::c_by_value,
+    },
     Implementation { key: "mut", title: "plain, &mut", run: plain_runs::by_mut, stack: plain_stacks::by_mut },
 ];
 

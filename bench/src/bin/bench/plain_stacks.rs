@@ -1,9 +1,9 @@
-//! The stack that a case's call uses with the plain responder, in both its forms.
+//! The stack that a case's call uses with the plain responder, in each of its forms.
 
 use crate::cases::{Case, Kind};
 use crate::stack::used;
 use bench::plain::state::{Endpoint, ROOM};
-use bench::plain::{by_mut, by_value};
+use bench::plain::{by_mut, by_value, c_by_value};
 use std::hint::black_box;
 use std::mem::take;
 
@@ -24,6 +24,19 @@ pub fn by_value(case: &Case) -> Option<usize> {
         Kind::Answer => used(|| {
             lookup.phase = case.phase();
             through(&mut lookup, |lookup| by_value::receive_lookup(lookup, &arrival, call.time, &mut out));
+        }),
+    }
+}
+
+pub fn c_by_value(case: &Case) -> Option<usize> {
+    let (call, arrival, mut out) = (case.call(), case.arrival(), [0; ROOM]);
+    let (mut host, mut lookup) = (case.host(), case.lookup());
+    match case.kind {
+        Kind::Receive => used(|| through(&mut host, |host| c_by_value::receive(host, &call, &arrival, &mut out))),
+        Kind::Tick => used(|| through(&mut host, |host| c_by_value::tick(host, &call, &mut out))),
+        Kind::Answer => used(|| {
+            lookup.phase = case.phase();
+            through(&mut lookup, |lookup| c_by_value::receive_lookup(lookup, &arrival, call.time, &mut out));
         }),
     }
 }

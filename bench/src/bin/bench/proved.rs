@@ -50,22 +50,42 @@ pub struct Name {
 }
 
 #[repr(C)]
-pub struct Interface {
-    pub setting: Setting,
+#[derive(Clone, Copy)]
+pub struct Settings {
+    pub interfaces: [Setting; INTERFACES],
+}
+
+#[repr(C)]
+#[derive(Clone, Copy)]
+pub struct Names {
     pub names: [Name; NAMES],
 }
 
 #[repr(C)]
 pub struct Host {
-    pub interfaces: [Interface; INTERFACES],
+    pub settings: Settings,
+    pub interfaces: [Names; INTERFACES],
     pub clock: u64,
 }
 
 #[repr(C)]
 pub struct Step {
-    pub host: Host,
+    pub clock: u64,
+    pub name: Name,
     pub outcome: Outcome,
     pub to: Endpoint,
+    pub changed: bool,
+}
+
+impl Host {
+    /// As llmnr_take of the header.
+    #[inline(always)]
+    pub fn take(&mut self, interface: usize, step: &Step) {
+        self.clock = step.clock;
+        if step.changed {
+            self.interfaces[interface].names[step.outcome.name] = step.name;
+        }
+    }
 }
 
 #[repr(C)]
@@ -91,7 +111,9 @@ pub struct LookupStep {
 
 extern "C" {
     pub fn llmnr_receive(
-        host: Host,
+        settings: Settings,
+        clock: u64,
+        names: Names,
         table: *const u8,
         table_len: usize,
         interface: usize,
@@ -106,7 +128,9 @@ extern "C" {
     ) -> Step;
 
     pub fn llmnr_tick(
-        host: Host,
+        settings: Settings,
+        clock: u64,
+        names: Names,
         table: *const u8,
         table_len: usize,
         interface: usize,
@@ -200,21 +224,22 @@ impl From<Name> for plain::NameState {
 
 impl From<plain::Host> for Host {
     fn from(plain::Host { interfaces, clock }: plain::Host) -> Host {
-        let interface = |plain::Interface { setting, names }| Interface {
-            setting: Setting::from(setting),
-            names: names.map(Name::from),
-        };
-        Host { interfaces: interfaces.map(interface), clock }
+        let settings = Settings { interfaces: interfaces.each_ref().map(|interface| interface.setting.into()) };
+        Host {
+            settings,
+            interfaces: interfaces.map(|interface| Names { names: interface.names.map(Name::from) }),
+            clock,
+        }
     }
 }
 
 impl From<Host> for plain::Host {
-    fn from(Host { interfaces, clock }: Host) -> plain::Host {
-        let interface = |Interface { setting, names }| plain::Interface {
-            setting: plain::Setting::from(setting),
-            names: names.map(plain::NameState::from),
+    fn from(Host { settings, interfaces, clock }: Host) -> plain::Host {
+        let interface = |number: usize| plain::Interface {
+            setting: settings.interfaces[number].into(),
+            names: interfaces[number].names.map(plain::NameState::from),
         };
-        plain::Host { interfaces: interfaces.map(interface), clock }
+        plain::Host { interfaces: std::array::from_fn(interface), clock }
     }
 }
 

@@ -1,5 +1,5 @@
 //! The call of a case made many times with the proved library, and the stack that it uses. The loops are as those of
-//! the plain responder.
+//! the plain responder; the step that a call of a host gives is taken into the host, as a program in C does it.
 
 use crate::cases::{Case, Kind};
 use crate::proved::{flat_phase, llmnr_lookup_receive, llmnr_receive, llmnr_tick};
@@ -26,18 +26,20 @@ impl<'a> From<plain::Arrival<'a>> for Arrival<'a> {
 }
 
 #[inline(always)]
-fn receive(host: Host, call: &Call, arrival: &Arrival, out: &mut [u8]) -> Step {
-    let (Call { table, interface, time, id }, Arrival { from, to, octets }) = (*call, *arrival);
+fn receive(host: &Host, call: &Call, arrival: &Arrival, out: &mut [u8]) -> Step {
+    let (Call { table, interface: i, time, id }, Arrival { from, to, octets }) = (*call, *arrival);
+    let (s, c, n) = (host.settings, host.clock, host.interfaces[i]);
     let (t, d, o) = (table.as_ptr(), octets.as_ptr(), out.as_mut_ptr());
     // Each pointer comes with the length of its slice, and nothing else uses `out` meanwhile.
-    unsafe { llmnr_receive(host, t, table.len(), interface, from, to, d, octets.len(), time, id, o, out.len()) }
+    unsafe { llmnr_receive(s, c, n, t, table.len(), i, from, to, d, octets.len(), time, id, o, out.len()) }
 }
 
 #[inline(always)]
-fn tick(host: Host, call: &Call, out: &mut [u8]) -> Step {
-    let Call { table, interface, time, id } = *call;
+fn tick(host: &Host, call: &Call, out: &mut [u8]) -> Step {
+    let Call { table, interface: i, time, id } = *call;
+    let (s, c, n) = (host.settings, host.clock, host.interfaces[i]);
     // As above.
-    unsafe { llmnr_tick(host, table.as_ptr(), table.len(), interface, time, id, out.as_mut_ptr(), out.len()) }
+    unsafe { llmnr_tick(s, c, n, table.as_ptr(), table.len(), i, time, id, out.as_mut_ptr(), out.len()) }
 }
 
 #[inline(always)]
@@ -65,8 +67,8 @@ fn run_receive(case: &Case, calls: u32) -> Run {
         if case.changes {
             host.interfaces[black_box(&call).interface].names[0] = state;
         }
-        let step = receive(host, black_box(&call), black_box(&arrival), black_box(&mut out[..]));
-        host = step.host;
+        let step = receive(&host, black_box(&call), black_box(&arrival), black_box(&mut out[..]));
+        host.take(black_box(&call).interface, &step);
         last = black_box((step.outcome, step.to));
     }
     Run::new(begin.elapsed(), State::Host(Box::new(host.into())), (last.0, last.1.into()), out)
@@ -77,8 +79,8 @@ fn run_tick(case: &Case, calls: u32) -> Run {
     let mut last = (Told::default().into(), plain::Endpoint::default().into());
     let begin = Instant::now();
     for _ in 0..calls {
-        let step = tick(host, black_box(&call), black_box(&mut out[..]));
-        host = step.host;
+        let step = tick(&host, black_box(&call), black_box(&mut out[..]));
+        host.take(black_box(&call).interface, &step);
         last = black_box((step.outcome, step.to));
     }
     Run::new(begin.elapsed(), State::Host(Box::new(host.into())), (last.0, last.1.into()), out)
@@ -102,14 +104,14 @@ fn run_answer(case: &Case, calls: u32) -> Run {
 pub fn stack(case: &Case) -> Option<usize> {
     let (call, arrival, mut out) = (case.call(), case.arrival().into(), [0; ROOM]);
     let (host, lookup) = (Host::from(case.host()), Lookup::from(case.lookup()));
-    // The states are plain numbers, and a copy of their octets is as good as they are.
-    let (host, lookup) = (|| unsafe { read(&host) }, || unsafe { read(&lookup) });
+    // A lookup is plain numbers, and a copy of its octets is as good as it is.
+    let lookup = || unsafe { read(&lookup) };
     match case.kind {
         Kind::Receive => used(|| {
-            black_box(&receive(host(), &call, &arrival, &mut out));
+            black_box(&receive(&host, &call, &arrival, &mut out));
         }),
         Kind::Tick => used(|| {
-            black_box(&tick(host(), &call, &mut out));
+            black_box(&tick(&host, &call, &mut out));
         }),
         Kind::Answer => used(|| {
             black_box(&answer(lookup(), &call, &arrival, &mut out));

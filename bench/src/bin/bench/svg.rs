@@ -18,7 +18,7 @@ const WIDTH: f64 = 430.0;
 const HEIGHT: f64 = 430.0;
 /// The plotted part of a panel: left, top, right, bottom.
 const AREA: [f64; 4] = [66.0, 120.0, 400.0, 378.0];
-const COLOURS: [&str; 3] = ["#12508c", "#c8641e", "#4d7f2e"];
+const COLOURS: [&str; 4] = ["#12508c", "#c8641e", "#7b4fa0", "#4d7f2e"];
 
 /// Where a value of each axis lies.
 struct Scale {
@@ -68,12 +68,19 @@ fn line(svg: &mut String, from: (f64, f64), to: (f64, f64), colour: &str) {
     );
 }
 
-/// A mark of its own for each series: circle, square, triangle.
+/// A mark of its own for each series: circle, square, diamond, triangle.
 fn mark(svg: &mut String, number: usize, (x, y): (f64, f64)) {
     let colour = COLOURS[number % COLOURS.len()];
     let shape = match number % COLOURS.len() {
         0 => format!("<circle cx=\"{x:.1}\" cy=\"{y:.1}\" r=\"4\""),
         1 => format!("<rect x=\"{:.1}\" y=\"{:.1}\" width=\"7\" height=\"7\"", x - 3.5, y - 3.5),
+        2 => format!(
+            "<polygon points=\"{x:.1},{:.1} {:.1},{y:.1} {x:.1},{:.1} {:.1},{y:.1}\"",
+            y - 5.0,
+            x + 5.0,
+            y + 5.0,
+            x - 5.0
+        ),
         _ => format!(
             "<polygon points=\"{x:.1},{:.1} {:.1},{:.1} {:.1},{:.1}\"",
             y - 4.5,
