@@ -5,7 +5,7 @@
  * library has no state of its own: no heap, no globals, no locks, no system calls. Any number of hosts and lookups may live side by side,
  * and calls on different ones may run at the same time.
  *
- * Each call is proved to do what the library's definition says on the state that the struct stands for, for every value of every field.
+ * Each call is proved to do what the library's definition says on the state that the structs stand for, for every value of every field.
  * docs/RULES.md says what that is. Rule numbers below (P3, K4) are of that page.
  *
  * What the caller owes:
