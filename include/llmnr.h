@@ -1,9 +1,9 @@
 /*
  * LLMNR (RFC 4795) for C: the calls of a host, which answers for its names, and of a lookup, which asks for one.
  *
- * Every call takes the state that it needs by value and gives what is new of it by value; of a host that is one name and the clock. The
- * library has no state of its own: no heap, no globals, no locks, no system calls. Any number of hosts and lookups may live side by side,
- * and calls on different ones may run at the same time.
+ * Every call takes the state by value and gives the next one by value; of a host it takes only what it needs, and gives only what may have
+ * changed. The library has no state of its own: no heap, no globals, no locks, no system calls. Any number of hosts and lookups may live
+ * side by side, and calls on different ones may run at the same time.
  *
  * Each call is proved to do what the library's definition says on the state that the structs stand for, for every value of every field.
  * docs/RULES.md says what that is. Rule numbers below (P3, K4) are of that page.
@@ -151,7 +151,7 @@ typedef struct llmnr_names {
  *     llmnr_step s = llmnr_tick(host.settings, host.clock, host.interfaces[i], table, table_len, i, time, id, out, sizeof out);
  *     llmnr_take(&host, i, s);
  *
- * What a call comes to depends on no name of another interface.
+ * What a call comes to depends on no name of another interface. With an interface number above 3 it is refused, whatever names it is given.
  */
 typedef struct llmnr_host {
     llmnr_settings settings;
