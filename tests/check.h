@@ -1,4 +1,4 @@
-/* What the tests in C share: a count of checks, and fillers that give every octet its own value. */
+/* What the tests in C share: a count of checks, a table and a datagram. What is inline need not be used. */
 #ifndef CHECK_H
 #define CHECK_H
 
@@ -28,7 +28,7 @@ static int told(const char *name)
 /* A table with eight names, a to h, each with an A record. The eighth is shared, the others are unique. */
 enum { ENTRIES = LLMNR_NAMES * 15 };
 
-static void make_table(uint8_t *table)
+static inline void make_table(uint8_t *table)
 {
     for (unsigned k = 0; k < LLMNR_NAMES; k++) {
         const uint8_t entries[15] = {7, 0, k == 7 ? 2 : 1, 0, 1, (uint8_t)('a' + k), 0, 8, 0, 3, 0, 192, 0, 2, (uint8_t)(k + 1)};
@@ -39,10 +39,11 @@ static void make_table(uint8_t *table)
 /* A query or a response for the k-th name: ID, flags, one question for an A record, class 1; 19 octets. */
 enum { QUERY = 19 };
 
-static void make_query(uint8_t *datagram, uint16_t id, uint16_t flags, unsigned k)
+static inline void make_query(uint8_t *datagram, uint16_t id, uint16_t flags, unsigned k)
 {
     const uint8_t octets[QUERY] = {
-        (uint8_t)(id >> 8), (uint8_t)id, (uint8_t)(flags >> 8), (uint8_t)flags, 0, 1, 0, 0, 0, 0, 0, 0, 1, (uint8_t)('a' + k), 0, 0, 1, 0, 1,
+        (uint8_t)(id >> 8), (uint8_t)id, (uint8_t)(flags >> 8), (uint8_t)flags, 0, 1, 0, 0, 0, 0, 0, 0,
+        1, (uint8_t)('a' + k), 0, 0, 1, 0, 1,
     };
     memcpy(datagram, octets, sizeof octets);
 }
