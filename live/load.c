@@ -1,13 +1,15 @@
 /*
  * load.c - sends LLMNR queries for a name at a steady rate, counts the answers, and sees what the host that answers needs for it.
  *
- * usage: load [--rate N] [--seconds S] [--family 4|6] PID INTERFACE NAME
+ * usage: load [--rate N] [--seconds S] [--family 4|6] [--echo] [--figures] PID INTERFACE NAME
  *   N queries a second (50000) for S seconds (5) go to the group by INTERFACE; they ask for the A record of NAME, which is one label.
  *   PID is the process that answers, on this machine. If the queries cannot be sent so fast, they are sent as fast as can be.
+ *   --echo     what comes back is the query itself (echo.c), and counts as its answer
+ *   --figures  prints four numbers and nothing else: queries, answers, and microseconds of processor time in user and in system mode
  *
  * Prints how many queries went out and how many answers came; of the process: its memory (VmRSS) before and after, its processor time
  * for a query, the datagrams that came when its socket was full, and how long it was kept waiting for a processor by others. Exit status:
- * 0 if its memory has not grown and it still answers.
+ * 0 if its memory has not grown and it still answers; with --figures, if it still answers.
  *
  * Linux only: it uses sendmmsg and /proc.
  */
@@ -35,6 +37,7 @@ typedef struct load {
     uint8_t queries[BATCH][80]; /* alike but for their IDs */
     size_t query_len;
     uint64_t sent, answers;
+    bool echo;
     uint16_t last_flags;
 } load;
 
@@ -42,6 +45,7 @@ typedef struct load {
 typedef struct usage {
     long memory; /* KiB */
     double cpu;  /* seconds on a processor */
+    long user, system; /* the same in ticks of the system's clock, by which it is split: a sample */
     double wait; /* seconds ready, but without a processor, since other programs had them */
     long drops;
 } usage;
@@ -90,7 +94,7 @@ static long drops_in(const char *pid, const char *list)
 static usage look(const char *pid)
 {
     char path[64], line[256];
-    usage u = {-1, 0, 0, 0};
+    usage u = {-1, 0, 0, 0, 0, 0};
     FILE *file;
 
     snprintf(path, sizeof path, "/proc/%s/status", pid);
@@ -108,6 +112,12 @@ static usage look(const char *pid)
     fclose(file);
     u.cpu /= 1e9;
     u.wait /= 1e9;
+    snprintf(path, sizeof path, "/proc/%s/stat", pid);
+    file = fopen(path, "r");
+    if (file == NULL || fgets(line, sizeof line, file) == NULL || strrchr(line, ')') == NULL
+        || sscanf(strrchr(line, ')'), ") %*c %*d %*d %*d %*d %*d %*u %*u %*u %*u %*u %ld %ld", &u.user, &u.system) != 2)
+        fail(path);
+    fclose(file);
     u.drops = drops_in(pid, "udp") + drops_in(pid, "udp6");
     return u;
 }
@@ -210,7 +220,7 @@ static void count_answers(load *l)
         got = recvmmsg(l->socket, messages, BATCH, MSG_DONTWAIT, NULL);
         for (k = 0; k < got; k++) {
             l->last_flags = (uint16_t)(octets[k][2] * 256 + octets[k][3]);
-            l->answers += messages[k].msg_len == 12 && (octets[k][2] & 0x80) && octets[k][7] > 0;
+            l->answers += messages[k].msg_len == 12 && (l->echo ? l->last_flags == 0 : (octets[k][2] & 0x80) && octets[k][7] > 0);
         }
     } while (got == BATCH);
 }
@@ -246,9 +256,22 @@ static double send_all(load *l, uint64_t count, double rate)
     return (double)(now() - begin) / 1e9;
 }
 
+static bool still_answers(const load *l)
+{
+    return l->last_flags == (l->echo ? 0 : 0x8000) && l->answers == l->sent;
+}
+
+static void print_figures(const usage *before, const usage *after, uint64_t sent, uint64_t answers)
+{
+    long user = after->user - before->user, system = after->system - before->system;
+    double cpu = (after->cpu - before->cpu) * 1e6, in_user = user + system > 0 ? cpu * (double)user / (double)(user + system) : 0;
+
+    printf("%llu %llu %.0f %.0f\n", (unsigned long long)sent, (unsigned long long)answers, in_user, cpu - in_user);
+}
+
 static bool report(const load *l, const usage *before, const usage *after, uint64_t sent, uint64_t answers, double seconds)
 {
-    bool still = l->last_flags == 0x8000 && l->answers == l->sent;
+    bool still = still_answers(l);
     long drops = after->drops - before->drops;
     double cpu = after->cpu - before->cpu;
 
@@ -268,18 +291,23 @@ int main(int argc, char **argv)
     double rate = 50000, seconds = 5, took;
     uint64_t sent, answers;
     usage before, after;
+    bool figures = false;
     int family = 4, at;
 
-    for (at = 1; at + 1 < argc && strncmp(argv[at], "--", 2) == 0; at += 2) {
+    for (at = 1; at + 1 < argc && strncmp(argv[at], "--", 2) == 0; at++) {
         if (strcmp(argv[at], "--rate") == 0)
-            rate = atof(argv[at + 1]);
+            rate = atof(argv[++at]);
         else if (strcmp(argv[at], "--seconds") == 0)
-            seconds = atof(argv[at + 1]);
+            seconds = atof(argv[++at]);
         else if (strcmp(argv[at], "--family") == 0)
-            family = atoi(argv[at + 1]);
+            family = atoi(argv[++at]);
+        else if (strcmp(argv[at], "--echo") == 0)
+            l.echo = true;
+        else if (strcmp(argv[at], "--figures") == 0)
+            figures = true;
     }
     if (argc - at != 3 || rate < 1 || seconds <= 0 || (family != 4 && family != 6)) {
-        fputs("usage: load [--rate N] [--seconds S] [--family 4|6] PID INTERFACE NAME\n", stderr);
+        fputs("usage: load [--rate N] [--seconds S] [--family 4|6] [--echo] [--figures] PID INTERFACE NAME\n", stderr);
         return 2;
     }
     make_queries(&l, argv[at + 2]);
@@ -297,5 +325,8 @@ int main(int argc, char **argv)
     l.sent = l.answers = l.last_flags = 0;
     send_all(&l, 10, 100);
     wait_for_answers(&l, 1000);
-    return report(&l, &before, &after, sent, answers, took) ? 0 : 1;
+    if (!figures)
+        return report(&l, &before, &after, sent, answers, took) ? 0 : 1;
+    print_figures(&before, &after, sent, answers);
+    return still_answers(&l) ? 0 : 1;
 }
