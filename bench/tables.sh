@@ -1,7 +1,7 @@
 #!/usr/bin/env bash
 # Measures now, and prints the tables of docs/PERFORMANCE.md in Markdown, ready to be pasted.
 # usage: tables.sh [PART ..]        parts: machine times instructions growth sizes, which are all if none is named; and socket
-#   growth also draws growth.svg; instructions needs valgrind; socket is ../live/cpu.sh, needs root, and takes four minutes
+#   growth also draws growth.svg; instructions needs valgrind; socket is ../live/cpu.sh, needs root, and takes more than four minutes
 set -euo pipefail
 cd "$(dirname "$0")"
 

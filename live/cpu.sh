@@ -1,14 +1,15 @@
 #!/bin/bash
 # cpu.sh - processor time for a query behind a socket: a bare echo server, indicator and llmnrd, one after another under the same load.
 #
-# Run as root:   live/cpu.sh [--seconds S] [--rate N]        5 seconds for each server, 10000 queries a second
+# Run as root:   live/cpu.sh [--seconds S] [--rate N]        5 seconds for each server, 5000 queries a second
 #   PROGRAMS  the folder of indicator and make_table (target/programs); load and echo are built there from load.c and echo.c
 #   R         the folder into which llmnrd was unpacked by dpkg -x; it is skipped if it is not there
 #
-# load.c in h1 asks for an A record by IPv4; the server in h2 answers. The rate is one that all of them keep up with: a server that is
-# too slow spends nothing on queries that it never sees. Printed are queries and answers, milliseconds of the server's processor time,
-# and microseconds of it for an answered query. The sum is exact. Its parts in user and in system mode are samples that the system takes
-# at each tick of its clock: 60 seconds make them steady. In system mode is also the way of the answer to the asker's socket.
+# load.c in h1 asks for an A record by IPv4; the server in h2 answers. The rate is one that all of them keep up with, since a server that
+# is too slow spends nothing on queries that it never sees; and at 5000 most queries come alone, and each wakes the server. Printed are
+# queries and answers, milliseconds of the server's processor time, and microseconds of it for an answered query. The sum is counted. Its
+# parts in user and in system mode are samples that the system takes at each tick of its clock: 60 seconds make them steady. In system
+# mode is also the way of the answer to the asker's socket.
 # The exit status is 0 only if every server answered 99 of 100 queries and ended as it should when told to.
 set -eu
 HERE=$(cd "$(dirname "$0")" && pwd)
@@ -55,7 +56,7 @@ measure() {
 }
 
 SECONDS_EACH=5
-RATE=10000
+RATE=5000
 ARGUMENTS=("$@")
 while [ $# -gt 0 ]; do
     case $#:$1 in
