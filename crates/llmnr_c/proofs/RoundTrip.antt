@@ -58,7 +58,7 @@ host-back h e = ap (λ (l : List HostInterface). record { interfaces = l; clock 
 
 -- ---- So does a lookup.
 
-phase-back : (p : Phase) → phaseOf (phaseNumber p) (sendsIn p) (dueIn p) ≡ p
+pub phase-back : (p : Phase) → phaseOf (phaseNumber p) (sendsIn p) (dueIn p) ≡ p
 phase-back (Asking sends timer) = refl
 phase-back (Collecting timer) = refl
 phase-back Ended = refl

@@ -22,14 +22,21 @@ use Rattle.host.specs.declared.Name.{Name}
 use Rattle.host.specs.declared.Interface.{Interface}
 use Rattle.host.specs.declared.Host.{Host}
 use Rattle.host.proofs.Laws.{start-same, receive-same, tick-same}
+use Rattle.lookup.specs.Outcomes.{Done as LookupDone}
+use Rattle.lookup.specs.Laws.{SameQuestion}
+use Rattle.lookup.specs.Receive.{Arrival as LookupArrival, receive as lookupReceive}
+use Rattle.lookup.specs.Tick.{tick as lookupTick}
+use Rattle.lookup.proofs.Laws.{receive-asks-the-same, tick-asks-the-same}
 use Rattle.responder.specs.Served.{changes, nameTold}
 use Rattle.llmnr_c.specs.Outcomes.{flatOutcome}
 use Rattle.llmnr_c.specs.FlatHost.{nameOf, hostOf, seen, flatState, noNames, stepOn, take}
+use Rattle.llmnr_c.specs.FlatLookup.{lookupOf, stepOf as lookupStep, take as takeLookup}
 use Rattle.llmnr_c.specs.declared.flat.FlatName.{FlatName}
 use Rattle.llmnr_c.specs.declared.flat.FlatNames.{FlatNames}
 use Rattle.llmnr_c.specs.declared.flat.FlatHost.{FlatHost}
+use Rattle.llmnr_c.specs.declared.flat_lookup.FlatLookup.{FlatLookup}
 use Rattle.llmnr_c.proofs.Lists.{Four, four, fours}
-use Rattle.llmnr_c.proofs.RoundTrip.{name-back}
+use Rattle.llmnr_c.proofs.RoundTrip.{name-back, phase-back}
 use Rattle.llmnr_c.proofs.Calls.{told-number}
 use Rattle.llmnr_c.proofs.Told.{Tells, silent, tells, start-tells, tick-tells, receive-tells}
 
@@ -128,3 +135,16 @@ pub receive-taken : (f : FlatHost) (a : Arrival) (n : FlatNames) → length (f .
     → TakesUp f (a .interface) (receive (hostOf f) a) (receive (seen (f .settings) (f .clock) n) a)
 receive-taken f a n long own =
     takes-up f (a .interface) n long own _ _ (receive-same _ _ a (same-here f (a .interface) n long own)) (receive-tells (hostOf f) a)
+
+-- ---- a lookup: a step that is taken into it gives the lookup that the definition gives, since what it asks never changes
+
+lookup-taken : (f : FlatLookup) (d : LookupDone) → SameQuestion (lookupOf f) (d .lookup) → lookupOf (takeLookup f (lookupStep d .step)) ≡ d .lookup
+lookup-taken f d q = rw (phase-back (d .lookup .phase), ← q .settings, ← q .interface, ← q .name, ← q .len, ← q .qtype, ← q .id)
+
+pub lookup-receive-taken : (f : FlatLookup) (a : LookupArrival)
+    → lookupOf (takeLookup f (lookupStep (lookupReceive (lookupOf f) a) .step)) ≡ lookupReceive (lookupOf f) a .lookup
+lookup-receive-taken f a = lookup-taken f (lookupReceive (lookupOf f) a) (receive-asks-the-same (lookupOf f) a)
+
+pub lookup-tick-taken : (f : FlatLookup) (time id : ℕ) (out : List ℕ)
+    → lookupOf (takeLookup f (lookupStep (lookupTick (lookupOf f) time id out) .step)) ≡ lookupTick (lookupOf f) time id out .lookup
+lookup-tick-taken f time id out = lookup-taken f (lookupTick (lookupOf f) time id out) (tick-asks-the-same (lookupOf f) time id out)

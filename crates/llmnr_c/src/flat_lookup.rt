@@ -2,7 +2,7 @@
 ghost use mathlib.Core.Path.{_≡_};
 ghost use Rattle.lookup.specs.Outcomes.{resultOf};
 ghost use Rattle.llmnr_c.specs.Outcomes.{flatLookupOutcome};
-ghost use Rattle.llmnr_c.specs.FlatLookup.{phaseOf, lookupOf, phaseNumber, sendsIn, dueIn, flatLookup};
+ghost use Rattle.llmnr_c.specs.FlatLookup.{phaseOf, lookupOf, phaseNumber, sendsIn, dueIn, flatLookup, flatStep};
 use crate::outcome::FlatOutcome;
 use host::Timer;
 use lookup::Lookup;
@@ -35,11 +35,23 @@ impl FlatLookup {
     pub const COLLECTING: u8 = 2;
 }
 
+// What a start comes to.
 #[repr(C)]
-pub struct FlatLookupStep {
+pub struct FlatLookupStart {
     pub lookup: FlatLookup,
     pub outcome: FlatOutcome,
     pub to: Endpoint,
+}
+
+// What a later call comes to: the clock and the phase of the lookup after it.
+#[repr(C)]
+pub struct FlatLookupStep {
+    pub clock: u64,
+    pub due: u64,
+    pub outcome: FlatOutcome,
+    pub to: Endpoint,
+    pub phase: u8,
+    pub sends: u8,
 }
 
 // The phase that numbers stand for. A number that no phase has counts as Ended.
@@ -123,16 +135,34 @@ fn flat_lookup(lookup: Lookup) -> FlatLookup
     }
 }
 
-pub(crate) fn flat_step(step: Step) -> FlatLookupStep
+pub(crate) fn flat_start(step: Step) -> FlatLookupStart
     ensures { λ r. ⌜ r ≡ record { lookup = flatLookup (step .lookup); outcome = flatLookupOutcome (resultOf (step .outcome)); to = step .to } ⌝ }
 {
     let lookup = flat_lookup(step.lookup);
     let came = step.outcome;
     let outcome = crate::outcome::of_lookup(came);
     let to = step.to;
-    FlatLookupStep {
+    FlatLookupStart {
         lookup,
         outcome,
         to,
+    }
+}
+
+pub(crate) fn flat_step(step: Step) -> FlatLookupStep
+    ensures { λ r. ⌜ r ≡ flatStep (step .lookup) (resultOf (step .outcome)) (step .to) ⌝ }
+{
+    let lookup = step.lookup;
+    let phase = lookup.phase;
+    let came = step.outcome;
+    let outcome = crate::outcome::of_lookup(came);
+    let to = step.to;
+    FlatLookupStep {
+        clock: lookup.clock,
+        due: due_in(phase),
+        outcome: outcome,
+        to: to,
+        phase: phase_number(phase),
+        sends: sends_in(phase),
     }
 }

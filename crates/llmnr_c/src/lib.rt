@@ -18,7 +18,7 @@ ghost use Rattle.lookup.specs.Start.{start as lookupStartOf};
 ghost use Rattle.lookup.specs.Receive.{receive as lookupReceiveOf};
 ghost use Rattle.lookup.specs.Tick.{tick as lookupTickOf};
 ghost use Rattle.llmnr_c.specs.FlatHost.{seen, hostSetUp, done, stepOn};
-ghost use Rattle.llmnr_c.specs.FlatLookup.{lookupOf, done as lookupDone, madeFlat as lookupMadeFlat};
+ghost use Rattle.llmnr_c.specs.FlatLookup.{lookupOf, started as lookupStarted, startOf as lookupStart, done as lookupDone, stepOf as lookupStep};
 ghost use Rattle.llmnr_c.specs.Reading.{flatRecord, flatTable};
 
 mod flat;
@@ -31,6 +31,7 @@ use flat::FlatSetUp;
 use flat::FlatSettings;
 use flat::FlatStep;
 use flat_lookup::FlatLookup;
+use flat_lookup::FlatLookupStart;
 use flat_lookup::FlatLookupStep;
 use octets::Address;
 use octets::Endpoint;
@@ -162,11 +163,11 @@ pub extern "C" fn llmnr_lookup_start(
     time: u64,
     id: u16,
     out: &mut [u8],
-) -> FlatLookupStep
-    ensures { λ r. ⌜ lookupDone r (now (out .exit)) ≡ lookupMadeFlat (lookupStartOf (settings .interfaces) interface (now (name .entry)) qtype time id (now (out .entry))) ⌝ }
+) -> FlatLookupStart
+    ensures { λ r. ⌜ lookupStarted r (now (out .exit)) ≡ lookupStart (lookupStartOf (settings .interfaces) interface (now (name .entry)) qtype time id (now (out .entry))) ⌝ }
 {
     let interfaces = settings.interfaces;
-    flat_lookup::flat_step(querier::start(interfaces, interface, name, qtype, time, id, out))
+    flat_lookup::flat_start(querier::start(interfaces, interface, name, qtype, time, id, out))
 }
 
 // Takes a datagram that came from an address and port to an address.
@@ -180,7 +181,7 @@ pub extern "C" fn llmnr_lookup_receive(
     id: u16,
     out: &mut [u8],
 ) -> FlatLookupStep
-    ensures { λ r. ⌜ lookupDone r (now (out .exit)) ≡ lookupMadeFlat (lookupReceiveOf (lookupOf lookup) (record { from = from; to = to; datagram = now (datagram .entry); time = time; id = id; out = now (out .entry) })) ⌝ }
+    ensures { λ r. ⌜ lookupDone r (now (out .exit)) ≡ lookupStep (lookupReceiveOf (lookupOf lookup) (record { from = from; to = to; datagram = now (datagram .entry); time = time; id = id; out = now (out .entry) })) ⌝ }
 {
     let l = flat_lookup::lookup_of(lookup);
     flat_lookup::flat_step(querier::receive(l, from, to, datagram, time, id, out))
@@ -194,7 +195,7 @@ pub extern "C" fn llmnr_lookup_tick(
     id: u16,
     out: &mut [u8],
 ) -> FlatLookupStep
-    ensures { λ r. ⌜ lookupDone r (now (out .exit)) ≡ lookupMadeFlat (lookupTickOf (lookupOf lookup) time id (now (out .entry))) ⌝ }
+    ensures { λ r. ⌜ lookupDone r (now (out .exit)) ≡ lookupStep (lookupTickOf (lookupOf lookup) time id (now (out .entry))) ⌝ }
 {
     let l = flat_lookup::lookup_of(lookup);
     flat_lookup::flat_step(querier::tick(l, time, id, out))
