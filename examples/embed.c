@@ -110,11 +110,12 @@ int main(void)
     }
 
     /* The terminal asks. Its query goes to the group, and so to the indicator. */
-    llmnr_lookup_step asked = llmnr_lookup_start(settings_of(terminal.address), 0, scale3, sizeof scale3, TYPE_A, now, fresh_id(),
-                                                 out, sizeof out);
+    llmnr_lookup_start_step asked = llmnr_lookup_start(settings_of(terminal.address), 0, scale3, sizeof scale3, TYPE_A, now, fresh_id(),
+                                                       out, sizeof out);
     tell("terminal", "start", asked.outcome, asked.to);
     if (asked.outcome.what != LLMNR_QUERY)
         return 1;
+    llmnr_lookup lookup = asked.lookup;
     memcpy(heard, out, asked.outcome.len);
     step = llmnr_receive(host.settings, host.clock, host.interfaces[0], table, sizeof table, 0, terminal, asked.to.address, heard,
                          asked.outcome.len, now, fresh_id(), out, sizeof out);
@@ -125,10 +126,12 @@ int main(void)
 
     /* The reply goes back to the terminal. */
     memcpy(heard, out, step.outcome.len);
-    asked = llmnr_lookup_receive(asked.lookup, indicator, step.to.address, heard, step.outcome.len, now, fresh_id(), out, sizeof out);
-    tell("terminal", "receive", asked.outcome, asked.to);
-    if (asked.outcome.what != LLMNR_FOUND)
+    llmnr_lookup_step answered = llmnr_lookup_receive(lookup, indicator, step.to.address, heard, step.outcome.len, now, fresh_id(), out,
+                                                      sizeof out);
+    llmnr_lookup_take(&lookup, answered);
+    tell("terminal", "receive", answered.outcome, answered.to);
+    if (answered.outcome.what != LLMNR_FOUND)
         return 1;
-    tell_addresses(heard, step.outcome.len, asked.outcome);
+    tell_addresses(heard, step.outcome.len, answered.outcome);
     return 0;
 }

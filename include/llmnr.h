@@ -1,9 +1,9 @@
 /*
  * LLMNR (RFC 4795) for C: the calls of a host, which answers for its names, and of a lookup, which asks for one.
  *
- * Every call takes the state by value and gives the next one by value; of a host it takes only what it needs, and gives only what may have
- * changed. The library has no state of its own: no heap, no globals, no locks, no system calls. Any number of hosts and lookups may live
- * side by side, and calls on different ones may run at the same time.
+ * Every call takes the state by value, of a host only what it needs, and gives by value what may have changed. llmnr_set_up and
+ * llmnr_lookup_start give the whole state. The library has none of its own: no heap, no globals, no locks, no system calls. Any number of
+ * hosts and lookups may live side by side, and calls on different ones may run at the same time.
  *
  * Each call is proved to do what the library's definition says on the state that the structs stand for, for every value of every field.
  * docs/RULES.md says what that is. Rule numbers below (P3, K4) are of that page.
@@ -213,6 +213,13 @@ enum {
     LLMNR_PHASE_COLLECTING = 2 /* due */
 };
 
+/*
+ * The whole state of a lookup. What a phase does not use of sends and due is not read. Hand the lookup to a later call, and take the step
+ * that it gives into the lookup before the next one:
+ *
+ *     llmnr_lookup_step s = llmnr_lookup_tick(lookup, time, id, out, sizeof out);
+ *     llmnr_lookup_take(&lookup, s);
+ */
 typedef struct llmnr_lookup {
     llmnr_setting settings[LLMNR_INTERFACES];
     size_t interface;
@@ -226,18 +233,41 @@ typedef struct llmnr_lookup {
     uint64_t due;    /* when to tick */
 } llmnr_lookup;
 
-typedef struct llmnr_lookup_step {
+/* A new lookup, the outcome, and where to send. */
+typedef struct llmnr_lookup_start_step {
     llmnr_lookup lookup;
     llmnr_outcome outcome;
     llmnr_endpoint to;
+} llmnr_lookup_start_step;
+
+/*
+ * What a later call comes to: the clock and the phase of the lookup after it. All else of the lookup stays. What the phase does not use of
+ * sends and due is 0. If refused, clock and phase are as they were; a phase number that is none comes back as 0.
+ */
+typedef struct llmnr_lookup_step {
+    uint64_t clock;        /* of the lookup, after the call */
+    uint64_t due;          /* its phase, sends and due, after the call */
+    llmnr_outcome outcome;
+    llmnr_endpoint to;     /* where to send; all zero unless the outcome is a query */
+    uint8_t phase;
+    uint8_t sends;
 } llmnr_lookup_step;
+
+/* Takes a step into the lookup that it was made of. */
+static inline void llmnr_lookup_take(llmnr_lookup *lookup, llmnr_lookup_step step)
+{
+    lookup->clock = step.clock;
+    lookup->phase = step.phase;
+    lookup->sends = step.sends;
+    lookup->due = step.due;
+}
 
 /*
  * Asks on an interface for the records of a type (1 for A, 28 for AAAA) of a name, given as on the wire: "\6scale3", 8 octets with the
  * final zero. QUERY, to be sent from a port of its own; or refused (1, 3, 4, 10), with an ended lookup that is all zero.
  */
-llmnr_lookup_step llmnr_lookup_start(llmnr_settings settings, size_t interface, const uint8_t *name, size_t name_len, uint16_t qtype,
-                                     uint64_t time, uint16_t id, uint8_t *out, size_t out_len);
+llmnr_lookup_start_step llmnr_lookup_start(llmnr_settings settings, size_t interface, const uint8_t *name, size_t name_len, uint16_t qtype,
+                                           uint64_t time, uint16_t id, uint8_t *out, size_t out_len);
 
 /* Takes a datagram that came on the lookup's port: FOUND, PART, or refused. llmnr_record reads the answers. */
 llmnr_lookup_step llmnr_lookup_receive(llmnr_lookup lookup, llmnr_endpoint from, llmnr_address to, const uint8_t *datagram,

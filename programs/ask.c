@@ -184,24 +184,31 @@ static uint16_t fresh_id(void)
     return id;
 }
 
-/* Keeps the lookup that a call gave (P15), and sends what it wrote. */
-static void act(asker *me, question *q, const llmnr_lookup_step *step)
+/* Sends what a call wrote, if its outcome is a query. */
+static void send_query(const asker *me, const question *q, const llmnr_outcome *outcome, const llmnr_endpoint *to)
 {
-    q->lookup = step->lookup;
-    if (step->outcome.what == LLMNR_QUERY && !net_send(q->socket, &q->interface, &step->to, me->out, step->outcome.len))
+    if (outcome->what == LLMNR_QUERY && !net_send(q->socket, &q->interface, to, me->out, outcome->len))
         fail(FAILED, "%s/%s: cannot send a query: %s", me->port, net_family(&q->interface), strerror(errno));
+}
+
+/* Takes the step that a later call gave into its lookup (P15), and sends what it wrote. */
+static void act(const asker *me, question *q, const llmnr_lookup_step *step)
+{
+    llmnr_lookup_take(&q->lookup, *step);
+    send_query(me, q, &step->outcome, &step->to);
 }
 
 static void start(asker *me, question *q)
 {
-    llmnr_lookup_step step = llmnr_lookup_start(me->settings, q->number, me->name, me->name_len, q->type, net_time(), fresh_id(), me->out,
-                                                sizeof me->out);
+    llmnr_lookup_start_step step = llmnr_lookup_start(me->settings, q->number, me->name, me->name_len, q->type, net_time(), fresh_id(),
+                                                      me->out, sizeof me->out);
 
     if (step.outcome.what == LLMNR_REFUSED)
         fail(FAILED, "%s: the library refused the lookup with %d", me->text, step.outcome.refusal);
+    q->lookup = step.lookup;
     q->tentative = false;
     q->tries++;
-    act(me, q, &step);
+    send_query(me, q, &step.outcome, &step.to);
 }
 
 /* Hands over all datagrams that have come to a lookup's socket on its network interface (P14). */

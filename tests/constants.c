@@ -231,31 +231,37 @@ static llmnr_lookup_step answered(llmnr_lookup l, uint16_t flags, uint8_t answer
 static void lookups(void)
 {
     static const uint8_t name[] = {1, 'f', 0};
-    llmnr_lookup_step s = llmnr_lookup_start(settings(), 1, name, 2, 1, 4, 0x1234, out, sizeof out);
-    CHECK(refused(s.outcome, LLMNR_REFUSAL_QUESTION) && s.lookup.phase == LLMNR_PHASE_ENDED);
-    s = llmnr_lookup_start(settings(), 1, name, sizeof name, 1, 4, 0x1234, out, sizeof out);
-    CHECK(says(s.outcome, LLMNR_QUERY) && s.outcome.len == QUERY && s.to.port == LLMNR_PORT);
-    llmnr_lookup l = s.lookup;
+    llmnr_lookup_start_step started = llmnr_lookup_start(settings(), 1, name, 2, 1, 4, 0x1234, out, sizeof out);
+    CHECK(refused(started.outcome, LLMNR_REFUSAL_QUESTION) && started.lookup.phase == LLMNR_PHASE_ENDED);
+    started = llmnr_lookup_start(settings(), 1, name, sizeof name, 1, 4, 0x1234, out, sizeof out);
+    CHECK(says(started.outcome, LLMNR_QUERY) && started.outcome.len == QUERY && started.to.port == LLMNR_PORT);
+    const llmnr_lookup asking = started.lookup;
+    llmnr_lookup l = asking;
     CHECK(l.phase == LLMNR_PHASE_ASKING && l.sends == 1 && l.due == 104 && l.id == 0x1234 && l.qtype == 1 && l.len == 3);
 
-    s = answered(l, 0, 1, 5);
-    CHECK(s.outcome.what == LLMNR_FOUND && s.outcome.at == QUERY && s.outcome.answers == 1 && s.lookup.phase == LLMNR_PHASE_ENDED);
+    llmnr_lookup_step s = answered(l, 0, 1, 5);
+    CHECK(s.outcome.what == LLMNR_FOUND && s.outcome.at == QUERY && s.outcome.answers == 1 && s.phase == LLMNR_PHASE_ENDED);
     CHECK(refused(answered(l, TENTATIVE, 1, 5).outcome, LLMNR_REFUSAL_TENTATIVE));
     CHECK(refused(answered(l, 0, 2, 5).outcome, LLMNR_REFUSAL_RECORDS));
     s = answered(l, CONFLICT, 1, 5);
     CHECK(s.outcome.what == LLMNR_PART && s.outcome.at == QUERY && s.outcome.answers == 1);
-    CHECK(s.lookup.phase == LLMNR_PHASE_COLLECTING && s.lookup.sends == 0 && s.lookup.due == 104);
-    s = llmnr_lookup_tick(s.lookup, 104, 7, out, sizeof out);
-    CHECK(says(s.outcome, LLMNR_COLLECTED) && s.lookup.phase == LLMNR_PHASE_ENDED && s.lookup.due == 0);
+    CHECK(s.phase == LLMNR_PHASE_COLLECTING && s.sends == 0 && s.due == 104 && s.clock == 5);
+    llmnr_lookup_take(&l, s);
+    s = llmnr_lookup_tick(l, 104, 7, out, sizeof out);
+    CHECK(says(s.outcome, LLMNR_COLLECTED) && s.phase == LLMNR_PHASE_ENDED && s.due == 0);
 
+    l = asking;
     CHECK(says(llmnr_lookup_tick(l, 103, 7, out, sizeof out).outcome, LLMNR_QUIET));
     s = llmnr_lookup_tick(l, 104, 7, out, sizeof out);
-    CHECK(says(s.outcome, LLMNR_QUERY) && s.lookup.sends == 2 && s.lookup.due == 204 && s.lookup.clock == 104);
+    CHECK(says(s.outcome, LLMNR_QUERY) && s.phase == LLMNR_PHASE_ASKING && s.sends == 2 && s.due == 204 && s.clock == 104);
     CHECK(out[0] == 0x12 && out[1] == 0x34 && out[TYPE] == 1);
-    s = llmnr_lookup_tick(s.lookup, 204, 7, out, sizeof out);
-    s = llmnr_lookup_tick(s.lookup, 304, 7, out, sizeof out);
-    CHECK(says(s.outcome, LLMNR_NO_SUCH_NAME) && s.lookup.phase == LLMNR_PHASE_ENDED);
-    CHECK(refused(answered(s.lookup, 0, 1, 305).outcome, LLMNR_REFUSAL_UNMATCHED));
+    llmnr_lookup_take(&l, s);
+    llmnr_lookup_take(&l, llmnr_lookup_tick(l, 204, 7, out, sizeof out));
+    s = llmnr_lookup_tick(l, 304, 7, out, sizeof out);
+    CHECK(says(s.outcome, LLMNR_NO_SUCH_NAME) && s.phase == LLMNR_PHASE_ENDED);
+    llmnr_lookup_take(&l, s);
+    CHECK(refused(answered(l, 0, 1, 305).outcome, LLMNR_REFUSAL_UNMATCHED));
+    l = asking;
     for (unsigned other = LLMNR_PHASE_COLLECTING + 1; other < 256; other++) {
         l.phase = (uint8_t)other;
         CHECK(says(llmnr_lookup_tick(l, 104, 7, out, sizeof out).outcome, LLMNR_QUIET));
