@@ -89,6 +89,7 @@ impl Host {
 }
 
 #[repr(C)]
+#[derive(Clone, Copy)]
 pub struct Lookup {
     pub settings: [Setting; INTERFACES],
     pub interface: usize,
@@ -104,9 +105,23 @@ pub struct Lookup {
 
 #[repr(C)]
 pub struct LookupStep {
-    pub lookup: Lookup,
+    pub clock: u64,
+    pub due: u64,
     pub outcome: Outcome,
     pub to: Endpoint,
+    pub phase: u8,
+    pub sends: u8,
+}
+
+impl Lookup {
+    /// As llmnr_lookup_take of the header.
+    #[inline(always)]
+    pub fn take(&mut self, step: &LookupStep) {
+        self.clock = step.clock;
+        self.phase = step.phase;
+        self.sends = step.sends;
+        self.due = step.due;
+    }
 }
 
 extern "C" {

@@ -1,5 +1,5 @@
 //! The call of a case made many times with the proved library, and the stack that it uses. The loops are as those of
-//! the plain responder; the step that a call of a host gives is taken into the host, as a program in C does it.
+//! the plain responder; the step that a call gives is taken into the host or the lookup, as a program in C does it.
 
 use crate::cases::{Case, Kind};
 use crate::proved::{flat_phase, llmnr_lookup_receive, llmnr_receive, llmnr_tick};
@@ -8,7 +8,6 @@ use crate::seen::{Run, State, Told};
 use crate::stack::used;
 use bench::plain::state::{self as plain, Call, ROOM};
 use std::hint::black_box;
-use std::ptr::read;
 use std::time::Instant;
 
 /// A datagram, with addresses as C has them.
@@ -94,7 +93,7 @@ fn run_answer(case: &Case, calls: u32) -> Run {
     for _ in 0..calls {
         (lookup.phase, lookup.sends, lookup.due) = phase;
         let step = answer(lookup, black_box(&call), black_box(&arrival), black_box(&mut out[..]));
-        lookup = step.lookup;
+        lookup.take(&step);
         last = black_box((step.outcome, step.to));
     }
     Run::new(begin.elapsed(), State::Lookup(Box::new(lookup.into())), (last.0, last.1.into()), out)
@@ -104,8 +103,6 @@ fn run_answer(case: &Case, calls: u32) -> Run {
 pub fn stack(case: &Case) -> Option<usize> {
     let (call, arrival, mut out) = (case.call(), case.arrival().into(), [0; ROOM]);
     let (host, lookup) = (Host::from(case.host()), Lookup::from(case.lookup()));
-    // A lookup is plain numbers, and a copy of its octets is as good as it is.
-    let lookup = || unsafe { read(&lookup) };
     match case.kind {
         Kind::Receive => used(|| {
             black_box(&receive(&host, &call, &arrival, &mut out));
@@ -114,7 +111,7 @@ pub fn stack(case: &Case) -> Option<usize> {
             black_box(&tick(&host, &call, &mut out));
         }),
         Kind::Answer => used(|| {
-            black_box(&answer(lookup(), &call, &arrival, &mut out));
+            black_box(&answer(lookup, &call, &arrival, &mut out));
         }),
     }
 }

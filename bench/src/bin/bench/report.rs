@@ -59,8 +59,8 @@ pub fn sizes() {
     row("host", [size_of::<proved::Host>(), size_of::<Host>()]);
     let given = size_of::<proved::Settings>() + size_of::<u64>() + size_of::<proved::Names>();
     row("of it, into a call", [given, size_of::<Host>()]);
-    row("out of a call of a host", [size_of::<proved::Step>(), size_of::<(Host, Outcome, Endpoint)>()]);
+    row("out of a later call of a host", [size_of::<proved::Step>(), size_of::<(Host, Outcome, Endpoint)>()]);
     row("lookup", [size_of::<proved::Lookup>(), size_of::<Lookup>()]);
     let steps = [size_of::<proved::LookupStep>(), size_of::<(Lookup, LookupOutcome, Endpoint)>()];
-    row("out of a call of a lookup", steps);
+    row("out of a later call of a lookup", steps);
 }
