@@ -100,34 +100,14 @@ pub extern "C" fn llmnr_receive(
     ensures { λ r. ⌜ (r .changed ≡ true → (interface < interfaces) × (r .outcome .name < mostNames)) ⌝ }
 {
     let at = checks::slot(interface);
-    let setting = settings.interfaces[at];
+    let s = settings.interfaces[at];
     let held = names.names;
-    let h = heard::hear(
-        out.len(),
-        setting,
-        clock,
-        table,
-        interface,
-        from,
-        to,
-        datagram,
-        time,
-    );
+    let room = out.len();
+    let h = heard::hear(room, s, clock, table, interface, from, to, datagram, time);
     let n = flat::name_at(held, h.name);
     let all = settings.interfaces;
-    flat::step(heard::answer(
-        h,
-        n,
-        all,
-        setting,
-        clock,
-        table,
-        from,
-        datagram,
-        time,
-        id,
-        out,
-    ))
+    let step = heard::answer(h, n, all, s, clock, table, from, datagram, time, id, out);
+    flat::step(step)
 }
 
 // Serves the lowest-numbered name that is due on an interface that has these names.

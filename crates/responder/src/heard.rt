@@ -12,7 +12,7 @@ ghost use Rattle.host.specs.Receive.{receive as receiveOf};
 ghost use Rattle.host.specs.declared.Host.{Host};
 ghost use Rattle.checks.specs.Messages.{slotOf};
 ghost use Rattle.responder.specs.Served.{Sees, Serves};
-ghost use Rattle.responder.specs.Heard.{heardBy, hearing};
+ghost use Rattle.responder.specs.Heard.{hears as hearsOf, heardBy, hearing};
 use crate::contest;
 use crate::contest::Judged;
 use crate::opening;
@@ -78,6 +78,20 @@ fn refuse(refusal: Refusal) -> Heard
     }
 }
 
+fn hears(name: usize, records: u16, timer: Timer, header: Header, question: Question) -> Heard
+    ensures { λ r. ⌜ heardBy r ≡ hearsOf name records timer header question ⌝ }
+{
+    Heard {
+        refused: false,
+        refusal: Refusal::Room,
+        name: name,
+        records: records,
+        timer: timer,
+        header: header,
+        question: question,
+    }
+}
+
 // The octets of the buffer, and what the call is given. The names of the host are not looked at.
 pub fn hear(
     room: usize,
@@ -112,15 +126,7 @@ pub fn hear(
         return refuse(contest::unknown(header.response));
     };
     let timer = turn::timer(setting, time);
-    Heard {
-        refused: false,
-        refusal: Refusal::Room,
-        name: k,
-        records: t.ends[k],
-        timer: timer,
-        header: header,
-        question: question,
-    }
+    hears(k, t.ends[k], timer, header, question)
 }
 
 // What is made of it, with the state of the name that was heard of and the settings of all interfaces: it is answered, or settles who has the name.
@@ -159,12 +165,5 @@ pub fn answer(
     let told = contest::tell(ended, heard.name, setting.family, id, asked, out);
     let timer = heard.timer;
     let next = contest::next(ended, id, q, timer);
-    let outcome = told.outcome;
-    let to = told.to;
-    Served {
-        name: next,
-        clock: time,
-        outcome: outcome,
-        to: to,
-    }
+    served::told(next, time, told)
 }

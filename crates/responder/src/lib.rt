@@ -147,34 +147,14 @@ pub fn receive(
     let at = checks::slot(interface);
     let here = host.interfaces[at];
     let s = here.setting;
-    let h = heard::hear(
-        out.len(),
-        s,
-        host.clock,
-        table,
-        interface,
-        from,
-        to,
-        datagram,
-        time,
-    );
+    let clock = host.clock;
+    let room = out.len();
+    let h = heard::hear(room, s, clock, table, interface, from, to, datagram, time);
     let names = here.names;
     let n = name_at(names, h.name);
     let interfaces = host.interfaces;
-    let settings = Interface::settings(interfaces);
-    let a = heard::answer(
-        h,
-        n,
-        settings,
-        s,
-        host.clock,
-        table,
-        from,
-        datagram,
-        time,
-        id,
-        out,
-    );
+    let all = Interface::settings(interfaces);
+    let a = heard::answer(h, n, all, s, clock, table, from, datagram, time, id, out);
     after(host, at, a)
 }
 

@@ -15,6 +15,7 @@ ghost use Rattle.host.specs.declared.Host.{Host};
 ghost use Rattle.checks.specs.Messages.{slotOf};
 ghost use Rattle.responder.specs.Turn.{turned};
 ghost use Rattle.responder.specs.Served.{Sees, changes, nameTold, servedBy, Serves};
+use crate::contest::Told;
 use crate::opening;
 use crate::query;
 use crate::turn;
@@ -60,6 +61,20 @@ pub(crate) fn reply(clock: u64, len: usize, to: Endpoint) -> Served
         state: NameState::Off,
     };
     let outcome = Outcome::Reply { len };
+    Served {
+        name,
+        clock,
+        outcome,
+        to,
+    }
+}
+
+// How a contest has ended is told.
+pub(crate) fn told(name: Name, clock: u64, told: Told) -> Served
+    ensures { λ r. ⌜ r ≡ record { name = name; clock = clock; outcome = told .outcome; to = told .to } ⌝ }
+{
+    let outcome = told.outcome;
+    let to = told.to;
     Served {
         name,
         clock,

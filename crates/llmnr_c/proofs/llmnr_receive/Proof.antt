@@ -10,11 +10,11 @@ use Rattle.llmnr_c.proofs.llmnr_receive.Tie as tie
 slot-requires : tie.Need-slot-requires
 slot-requires c κs = search needs
 
-mul-setting : tie.Need-mul-setting
-mul-setting c = search needs
+mul-s : tie.Need-mul-s
+mul-s c = search needs
 
-element-copy-out-setting : tie.Need-element-copy-out-setting
-element-copy-out-setting c = search needs
+element-copy-out-s : tie.Need-element-copy-out-s
+element-copy-out-s c = search needs
 
 hear-requires : tie.Need-hear-requires
 hear-requires c κs = search needs
@@ -49,8 +49,8 @@ llmnr-receive-spec =
     tie.close
     (tie.spec
     slot-requires
-    mul-setting
-    element-copy-out-setting
+    mul-s
+    element-copy-out-s
     hear-requires
     name-at-requires
     answer-requires

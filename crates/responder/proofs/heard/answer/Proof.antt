@@ -107,6 +107,9 @@ tell-requires c κs = search needs
 next-requires : tie.Need-next-requires
 next-requires c κs = search needs
 
+told-requires : tie.Need-told-requires
+told-requires c κs = search needs
+
 same-length-2 : tie.Need-same-length-2
 same-length-2 c = search needs
 
@@ -118,15 +121,17 @@ contest-left c Contest e = refl
 
 returns-4 : tie.Need-returns-4
 returns-4 c = λ h i to x own heard n.
-    let t = c .before .before .before .before .before in
+    let e = c .before in
+    let t = e .before .before .before .before in
     let z = t .before .before in
     let m = z .before in
     let j = m .before .before .before in
     let y : _≡_ {A = Telling} _ _ =
     t .tell .ensures
     ∙ ap (λ (q : List ℕ). told (z .settle .result) (given j .args .heard .name) (given j .args .setting .family) (given j .args .id) q (now (given j .args .out))) (m .before .part .ensures) in
-    settled-on h (arrival (given j) i to) _ _ _ _ _ (well j h i to heard) _ n (j .judge .result) (judged-so j h i to own) (contest-left m _ refl) (z .settle .result)
-    (rw (x .setting) (z .settle .ensures)) _ (c .before .next .ensures) (t .tell .result) _ (rw (x .setting) y)
+    rw (c .told .ensures)
+    (settled-on h (arrival (given j) i to) _ _ _ _ _ (well j h i to heard) _ n (j .judge .result) (judged-so j h i to own) (contest-left m _ refl) (z .settle .result)
+    (rw (x .setting) (z .settle .ensures)) _ (e .next .ensures) (t .tell .result) _ (rw (x .setting) y))
 
 pub answer-spec : {M : Type 1} → statement M
 answer-spec =
@@ -147,5 +152,6 @@ answer-spec =
     settle-requires
     tell-requires
     next-requires
+    told-requires
     same-length-2
     returns-4)

@@ -162,18 +162,21 @@ module _ (c : tie.After-known-told) where
   in-names : k < mostNames
   in-names = in-table (octets f) (table f) (name f) k (sym (sought f) ∙ c .before .found .given .1)
 
-mul-t23 : tie.Need-mul-t23
-mul-t23 c = let l = in-names (c .before) in search needs
+mul-hears : tie.Need-mul-hears
+mul-hears c = let l = in-names (c .before) in search needs
 
-element-copy-out-t29 : tie.Need-element-copy-out-t29
-element-copy-out-t29 c = let l = in-names (c .before) in search needs
+element-copy-out-hears : tie.Need-element-copy-out-hears
+element-copy-out-hears c = let l = in-names (c .before) in search needs
+
+hears-requires : tie.Need-hears-requires
+hears-requires c κs = search needs
 
 returns-4 : tie.Need-returns-4
 returns-4 c = λ h id out x l.
-    let m = c .before in
+    let m = c .before .before in
     let n = m .before in
     let r = r2 (f n) in
-    rw (m .timer .ensures, ← x .setting)
+    rw (c .hears .ensures, m .timer .ensures, ← x .setting)
     (heard h (arrival (o r) id out) _ _ (called (e1 r) h id out x l) (read r) (read-so r h x) (e2 (f n) .if2 .left) _ (sought (f n)) (k n) (n .before .found .given .1))
 
 pub hear-spec : {M : Type 1} → statement M
@@ -195,6 +198,7 @@ hear-spec =
     refuse-requires-3
     returns-3
     timer-requires
-    mul-t23
-    element-copy-out-t29
+    mul-hears
+    element-copy-out-hears
+    hears-requires
     returns-4)
