@@ -3,8 +3,8 @@
  *
  * usage: echo [--turns] INTERFACE
  *   Joins 224.0.0.252 on INTERFACE, on UDP port 5355. It sleeps in recvmsg, and answers by sendmsg: two system calls for a query.
- *   --turns  the system calls of indicator in its place: it sleeps in pselect, takes what has come until there is no more, and looks
- *            at a socket of IPv6 too, on which nothing comes
+ *   --turns  the system calls of indicator in its place: it sleeps in pselect, also for a socket of IPv6 on which nothing comes, and
+ *            takes what has come until there is no more
  *
  * What indicator needs beyond `echo --turns` is what it does with a datagram between the two calls. Ends on SIGTERM, with status 0.
  */
@@ -111,8 +111,9 @@ int main(int argc, char **argv)
         FD_ZERO(&readable);
         FD_SET(four, &readable);
         FD_SET(six, &readable);
-        pselect((four > six ? four : six) + 1, &readable, NULL, NULL, NULL, NULL);
-        while (answer(four, MSG_DONTWAIT)) {}
-        while (answer(six, MSG_DONTWAIT)) {}
+        if (pselect((four > six ? four : six) + 1, &readable, NULL, NULL, NULL, NULL) < 0)
+            fail("pselect");
+        while (FD_ISSET(four, &readable) && answer(four, MSG_DONTWAIT)) {}
+        while (FD_ISSET(six, &readable) && answer(six, MSG_DONTWAIT)) {}
     }
 }

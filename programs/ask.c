@@ -265,7 +265,7 @@ static void run(asker *me)
         }
         if (due == UINT64_MAX)
             return;
-        if (!net_wait(sockets, me->count, due))
+        if (!net_wait(sockets, me->count, due, NULL))
             fail(FAILED, "cannot wait: %s", strerror(errno));
         time = net_time();
         for (k = 0; k < me->count; k++) {

@@ -185,14 +185,14 @@ static void start_names(indicator *me)
 }
 
 /* Hands a datagram over, if it came on an interface that we use (P6). */
-static void hand_over(indicator *me, uint8_t family, uint64_t time)
+static void hand_over(indicator *me, uint64_t time)
 {
     const net_datagram *d = &me->datagram;
     llmnr_step step;
     size_t i;
 
     for (i = 0; i < me->count; i++)
-        if (me->used[i].index == d->index && me->used[i].address.family == family)
+        if (me->used[i].index == d->index && me->used[i].address.family == d->to.family)
             break;
     if (i == me->count)
         return;
@@ -204,18 +204,15 @@ static void hand_over(indicator *me, uint8_t family, uint64_t time)
 }
 
 /* Hands over what has come. A flood does not keep the names from being served: what had come when this began is among the first. */
-static void drain(indicator *me, uint8_t family, uint64_t time)
+static void drain(indicator *me, int socket, uint64_t time)
 {
-    int socket = socket_of(me, family), got = socket < 0 ? 0 : 1;
+    int got = 1;
     size_t n;
 
-    for (n = 0; n < NET_WAITING && got == 1; n++) {
-        got = net_receive(socket, &me->datagram);
-        if (got < 0)
-            fail(FAILED_SOCKET, "cannot receive: %s", strerror(errno));
-        if (got == 1)
-            hand_over(me, family, time);
-    }
+    for (n = 0; n < NET_WAITING && (got = net_receive(socket, &me->datagram)) == 1; n++)
+        hand_over(me, time);
+    if (got < 0)
+        fail(FAILED_SOCKET, "cannot receive: %s", strerror(errno));
 }
 
 /* The earliest due time on an interface (P7); UINT64_MAX if there is none. */
@@ -250,22 +247,24 @@ static void serve(indicator *me, size_t i, uint64_t time)
 }
 
 /*
- * Until a signal comes. All calls of one turn have the time at which it began: a datagram that had come when a name fell due is then
- * handed over before the tick (P9).
+ * Until a signal comes. All calls of one turn have the time at which it began. Before a tick both sockets are looked at, also one that
+ * could not be read when the wait ended: a datagram that had come when a name fell due is handed over first (P9).
  */
 static void run(indicator *me)
 {
     while (!ended) {
         uint64_t time, due = UINT64_MAX;
+        bool readable[3];
         size_t i;
 
         for (i = 0; i < me->count; i++)
             due = due_on(me, i) < due ? due_on(me, i) : due;
-        if (!net_wait(me->sockets, 3, due))
+        if (!net_wait(me->sockets, 3, due, readable))
             fail(FAILED_SOCKET, "cannot wait: %s", strerror(errno));
         time = net_time();
-        drain(me, 4, time);
-        drain(me, 6, time);
+        for (i = 0; i < 2; i++)
+            if (me->sockets[i] >= 0 && (readable[i] || due <= time))
+                drain(me, me->sockets[i], time);
         for (i = 0; i < me->count; i++)
             serve(me, i, time);
     }

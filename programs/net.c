@@ -331,18 +331,18 @@ bool net_send(int socket, const net_interface *interface, const llmnr_endpoint *
 
 /* ---- waiting, the clock, IDs ---- */
 
-bool net_wait(const int *descriptors, size_t count, uint64_t due)
+bool net_wait(const int *descriptors, size_t count, uint64_t due, bool *readable)
 {
     struct timespec now, left;
-    fd_set readable;
-    int highest = -1;
+    fd_set watched;
+    int highest = -1, ready;
     size_t k;
 
-    FD_ZERO(&readable);
+    FD_ZERO(&watched);
     for (k = 0; k < count; k++) {
         if (descriptors[k] < 0)
             continue;
-        FD_SET(descriptors[k], &readable);
+        FD_SET(descriptors[k], &watched);
         highest = descriptors[k] > highest ? descriptors[k] : highest;
     }
     /* Nanoseconds, so that the sleep ends within the millisecond that is due. */
@@ -355,7 +355,10 @@ bool net_wait(const int *descriptors, size_t count, uint64_t due)
     }
     if (left.tv_sec < 0)
         left.tv_sec = left.tv_nsec = 0;
-    return pselect(highest + 1, &readable, NULL, NULL, due == UINT64_MAX ? NULL : &left, NULL) >= 0 || errno == EINTR;
+    ready = pselect(highest + 1, &watched, NULL, NULL, due == UINT64_MAX ? NULL : &left, NULL);
+    for (k = 0; readable != NULL && k < count; k++)
+        readable[k] = ready > 0 && descriptors[k] >= 0 && FD_ISSET(descriptors[k], &watched);
+    return ready >= 0 || errno == EINTR;
 }
 
 uint64_t net_time(void)

@@ -60,8 +60,11 @@ int net_receive(int socket, net_datagram *datagram);
 /* Sends from an interface's own address. */
 bool net_send(int socket, const net_interface *interface, const llmnr_endpoint *to, const uint8_t *octets, size_t len);
 
-/* Sleeps until one of the descriptors can be read, or the time has come; UINT64_MAX never comes. */
-bool net_wait(const int *descriptors, size_t count, uint64_t due);
+/*
+ * Sleeps until one of the descriptors can be read, or the time has come; UINT64_MAX never comes. readable, unless it is NULL, then tells of
+ * each whether it can be.
+ */
+bool net_wait(const int *descriptors, size_t count, uint64_t due, bool *readable);
 
 /* Milliseconds on a clock that never goes back (P5). */
 uint64_t net_time(void);
