@@ -7,6 +7,7 @@ case_ours() {
     row ask indicator IPv4 "$(by_ask 4 h1 scale3)" 169.254.77.2
     row ask indicator IPv6 "$(by_ask 6 h1 scale3)" fe80::ff:fe00:2
     row 'ask SCALE3' indicator IPv4 "$(by_ask 4 h1 SCALE3)" 169.254.77.2
+    row 'ask SCALE3' indicator IPv6 "$(by_ask 6 h1 SCALE3)" fe80::ff:fe00:2
     row 'ask scale3 ANY' indicator IPv4 "$(by_ask 4 h1 scale3 ANY)" '169.254.77.2 fe80::ff:fe00:2'
     row 'ask scale3 ANY' indicator IPv6 "$(by_ask 6 h1 scale3 ANY)" '169.254.77.2 fe80::ff:fe00:2'
     row 'ask scale3 16' indicator both "$(said_by_ask h1 scale3 16)" 'exit 1: found, but no such record'
@@ -19,7 +20,9 @@ case_early() {
     make_name h2 unique scale3
     start_indicator h2 --interval 1000
     sleep 0.2
-    row 'ask --interval 1000' 'indicator, verifying' IPv4 "$(by_ask 4 h1 --interval 1000 scale3)" 169.254.77.2
+    in_host h1 "$PROGRAMS/ask" -i eth0 --interval 1000 scale3 >"$WORK/first" 2>/dev/null   # once: afterwards the name is owned
+    row 'ask --interval 1000' 'indicator, verifying' IPv4 "$(from_family 4 <"$WORK/first")" 169.254.77.2
+    row 'ask --interval 1000' 'indicator, verifying' IPv6 "$(from_family 6 <"$WORK/first")" fe80::ff:fe00:2
 }
 
 case_shared() {
@@ -63,24 +66,46 @@ case_resolved() {
     row 'ask hostalpha AAAA' 'resolved, empty by IPv4' both "$(by_ask 6 h1 hostalpha AAAA)" fe80::ff:fe00:4
     row 'resolvectl query -4' indicator IPv4 "$(by_resolved h4 query -4 scale3)" 169.254.77.2
     row 'resolvectl query -6' indicator IPv6 "$(by_resolved h4 query -6 scale3)" fe80::ff:fe00:2
-    row 'resolvectl query' indicator both "$(by_resolved h4 query scale3 | sed 's/^169.254.77.2$\|^fe80::ff:fe00:2$/one of the two/')" 'one of the two'
+    row 'resolvectl query' indicator both "$(by_resolved h4 query scale3 | one_of_two)" 'one of the two'
     row 'resolvectl query other' indicator both "$(by_resolved h4 query other)" none
 }
 
-# The numbers in refusals that an indicator printed for datagrams of so many octets: refusals HOST OCTETS
-refusals() { sed -n "s/.* $2 octets .*: \(refused [0-9]*\|reply\).*/\1/p" "$WORK/$1.log" | sort -u | paste -sd ' '; }
+# An ordinary program finds an indicator, if the system's library asks resolved.
+case_getent() {
+    have_resolved || { skip getent indicator both "$NO_RESOLVED"; return; }
+    have_getent || { skip getent indicator both "$NO_GETENT"; return; }
+    own h2 scale3
+    start_resolved h4 hostalpha
+    resolved_ready
+    row 'getent ahosts' 'indicator, by resolved' both "$(by_getent h4 ahosts scale3 | one_of_two)" 'one of the two'
+    row 'getent ahostsv4' 'indicator, by resolved' IPv4 "$(by_getent h4 ahostsv4 scale3)" 169.254.77.2
+    row 'getent ahostsv6' 'indicator, by resolved' IPv6 "$(by_getent h4 ahostsv6 scale3)" fe80::ff:fe00:2
+    row 'getent ahosts other' 'indicator, by resolved' both "$(by_getent h4 ahosts other)" none
+}
+
+# What became of the datagrams of so many octets by a family, counted: became HOST FAMILY OCTETS
+became() {
+    sed -n "s/.*\/IPv$2 $3 octets .*: \(refused [0-9]*\|reply\).*/\1/p" "$WORK/$1.log" | sort | uniq -c | sed 's/^ *//' | paste -sd ' '
+}
 
 # Long datagrams arrive in several packets. 9,194 octets are read; one more is refused with 5, and not cut and read.
 case_long() {
     own h2 scale3 --verbose
-    local octets
-    for octets in 9194 9195 9600; do in_host h1 python3 "$HERE/probe.py" scale3 --octets "$octets" --wait 100 >/dev/null; done
-    row '9194 octets' indicator IPv4 "$(refusals h2 9194)" reply
-    row '9195 octets' indicator IPv4 "$(refusals h2 9195)" 'refused 5'
-    row '9600 octets, told as 9195' indicator IPv4 "$(grep -c '9195 octets .*refused 5' "$WORK/h2.log") refused 5" '2 refused 5'
-    in_host h1 python3 "$HERE/probe.py" scale3 --octets 77 --to 169.254.77.2 --wait 100 >/dev/null
-    row 'query to its own address' indicator IPv4 "$(refusals h2 77)" 'refused 6'
+    local family
+    for family in 4 6; do
+        send_long "$family" 9194
+        row '9194 octets' indicator "IPv$family" "$(became h2 "$family" 9194)" '1 reply'
+        send_long "$family" 9195
+        row '9195 octets' indicator "IPv$family" "$(became h2 "$family" 9195)" '1 refused 5'
+        send_long "$family" 9600
+        row '9600 octets, told as 9195' indicator "IPv$family" "$(became h2 "$family" 9195)" '2 refused 5'
+        send_long "$family" 77 --to "${ADDRESS[$family]}2"
+        row 'query to its own address' indicator "IPv$family" "$(became h2 "$family" 77)" '1 refused 6'
+    done
 }
+
+# send_long FAMILY OCTETS [OPTION ..]
+send_long() { in_host h1 python3 "$HERE/probe.py" scale3 --family "$1" --octets "$2" --wait 100 "${@:3}" >/dev/null; }
 
 # 20,000 damaged and random datagrams, to the groups and to the address of the host.
 case_garbage() {
@@ -108,8 +133,11 @@ case_two_ports() {
     row 'indicator on eth0' nobody both "$(states h2 scale3 eth0)" unique/unique
     row 'indicator on eth1' 'another indicator' both "$(states h2 scale3 eth1)" stopped/stopped
     row 'ask at eth0' 'indicator on two ports' IPv4 "$(responders h1 scale3 4)" 169.254.77.2
+    row 'ask at eth0' 'indicator on two ports' IPv6 "$(responders h1 scale3 6)" fe80::ff:fe00:2
     row 'ask at eth1' 'the other indicator' IPv4 "$(responders h4 scale3 4)" 169.254.77.5
+    row 'ask at eth1' 'the other indicator' IPv6 "$(responders h4 scale3 6)" fe80::ff:fe00:5
     row 'ask here at eth0' 'indicator on two ports' IPv4 "$(responders h1 here 4)" 169.254.77.2
+    row 'ask here at eth0' 'indicator on two ports' IPv6 "$(responders h1 here 6)" fe80::ff:fe00:2
     row 'ask here at eth1' 'indicator on two ports' IPv4 "$(responders h4 here 4)" 169.254.78.2
     row 'ask here at eth1' 'indicator on two ports' IPv6 "$(responders h4 here 6)" fe80::ff:fe00:102
 }

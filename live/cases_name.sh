@@ -69,11 +69,13 @@ race() {
 
 case_once_high() {
     have_resolved || { skip indicator 'resolved, at once' both "$NO_RESOLVED"; return; }
+    have_tcpdump || { skip indicator 'resolved, at once' both "$NO_TCPDUMP"; return; }
     row 'indicator, lower' 'resolved, at once' both "$(race h2)" 'unique/unique; resolved has another name'
 }
 
 case_once_low() {
     have_resolved || { skip indicator 'resolved, at once' both "$NO_RESOLVED"; return; }
+    have_tcpdump || { skip indicator 'resolved, at once' both "$NO_TCPDUMP"; return; }
     row 'indicator, higher' 'resolved, at once' both "$(race h5)" 'stopped/stopped; resolved has the name'
 }
 
@@ -91,8 +93,6 @@ owners() {
         echo "states$states, answers $answers"
     fi
 }
-
-declare -A ADDRESS=([4]=169.254.77. [6]=fe80::ff:fe00:)
 
 # Three indicators start within one second, in any order; five times.
 case_three() {
@@ -112,6 +112,7 @@ case_three() {
 
 # The three queries of a start go out one interval apart, and the name is owned one interval after the last.
 case_timing() {
+    have_tcpdump || { skip indicator nobody both "$NO_TCPDUMP"; return; }
     make_name h2 unique scale3
     capture_start "$WORK/timing.pcap"
     start_indicator h2 --interval 1000
@@ -131,6 +132,21 @@ gaps() {
         END { if (bad != "") print NR " queries, gaps of" bad " ms"; else print NR " queries, 1000 ms apart (up to 20 more)" }'
 }
 
+# A response counts until the tick, also if it comes when the wait for it has ended (P9). strace keeps the indicator there for 1.5 s each
+# time, so that its third wait ends 3.3 s after its start and returns at 4.8. The host that has the name is held until 4, and then answers.
+case_late() {
+    have_strace || { skip indicator 'indicator, answers late' both "$NO_STRACE"; return; }
+    own h3 scale3
+    kill -STOP "$PID_h3"
+    make_name h2 unique scale3
+    start_in h2 "$WORK/h2.log" strace -I 1 -o /dev/null -e inject=pselect6:delay_exit=1500000 \
+        "$PROGRAMS/indicator" --interval 100 "$WORK/h2.table" eth0
+    sleep 4
+    kill -CONT "$PID_h3"
+    settled h2 scale3
+    row indicator 'indicator, answers late' both "$(states h2 scale3)" stopped/stopped
+}
+
 # ---- two links are joined by a cable ----
 
 # What an indicator did: its states, and whether it has defended the name: defended HOST NAME
@@ -145,13 +161,12 @@ case_joined() {
     own h2 scale3
     own h5 scale3
     join_cable
-    row 'any asker' 'both indicators' IPv4 "$(responders h1 scale3 4)" '169.254.77.2 169.254.77.5'
+    any_asker scale3 'both indicators' 2 5
     notify h1 scale3
     sleep 1
     row 'notification by h1' 'indicator, lower' both "$(defended h2 scale3)" 'unique/unique, defended'
     row 'notification by h1' 'indicator, higher' both "$(defended h5 scale3)" 'stopped/stopped, defended'
-    row 'any asker' 'indicator, lower' IPv4 "$(responders h1 scale3 4)" 169.254.77.2
-    row 'any asker' 'indicator, lower' IPv6 "$(responders h1 scale3 6)" fe80::ff:fe00:2
+    any_asker scale3 'indicator, lower' 2
 }
 
 # A resolved that asks tells of the conflict itself, if it has its cache on.
@@ -170,6 +185,7 @@ case_joined_told() {
     row 'notification by resolved' 'indicator, lower' both "$(defended h2 scale3)" 'unique/unique, defended'
     row 'notification by resolved' 'indicator, higher' both "$(defended h5 scale3)" 'stopped/stopped, defended'
     row 'resolvectl query -4' 'indicator, lower' IPv4 "$(by_resolved h4 query -4 scale3)" 169.254.77.2
+    row 'resolvectl query -6' 'indicator, lower' IPv6 "$(by_resolved h4 query -6 scale3)" fe80::ff:fe00:2
 }
 
 # joined_with_resolved HOST: an indicator in HOST and a resolved in h3 own a name on two links
@@ -188,7 +204,7 @@ case_joined_high() {
     joined_with_resolved h2
     row 'notification by h4' 'indicator, lower' both "$(defended h2 twin)" 'unique/unique, defended'
     row 'notification by h4' 'resolved, higher' both "$(renamed h3 twin)" 'resolved has another name'
-    row 'any asker' 'indicator, lower' IPv4 "$(responders h1 twin 4)" 169.254.77.2
+    any_asker twin 'indicator, lower' 2
 }
 
 case_joined_low() {
@@ -196,7 +212,7 @@ case_joined_low() {
     joined_with_resolved h5
     row 'notification by h4' 'indicator, higher' both "$(defended h5 twin)" 'stopped/stopped, defended'
     row 'notification by h4' 'resolved, lower' both "$(renamed h3 twin)" 'resolved has the name'
-    row 'any asker' 'resolved, lower' IPv4 "$(responders h1 twin 4)" 169.254.77.3
+    any_asker twin 'resolved, lower' 3
 }
 
 # llmnrd never gives a name up: beside it a lower indicator goes on to answer too (docs/INTEROP.md).
@@ -210,7 +226,7 @@ case_joined_llmnrd() {
     notify h1 lamp
     sleep 1
     row 'notification by h1' 'indicator, lower' both "$(defended h2 lamp)" 'unique/unique, defended'
-    row 'any asker' 'indicator and llmnrd' IPv4 "$(responders h1 lamp 4)" '169.254.77.2 169.254.77.3'
+    any_asker lamp 'indicator and llmnrd' 2 3
     stop_one "$PID_h2"
     in_host sw ip link set c0 down
     own h5 lamp
@@ -219,7 +235,7 @@ case_joined_llmnrd() {
     notify h1 lamp
     sleep 1
     row 'notification by h1' 'indicator, higher' both "$(defended h5 lamp)" 'stopped/stopped, defended'
-    row 'any asker' 'llmnrd' IPv4 "$(responders h1 lamp 4)" 169.254.77.3
+    any_asker lamp llmnrd 3
 }
 
 # ---- ends and beginnings ----
@@ -231,6 +247,7 @@ case_killed() {
     own h2 scale3
     row 'indicator, started again' nobody both "$(states h2 scale3)" unique/unique
     row ask 'indicator, started again' IPv4 "$(by_ask 4 h1 scale3)" 169.254.77.2
+    row ask 'indicator, started again' IPv6 "$(by_ask 6 h1 scale3)" fe80::ff:fe00:2
     kill_9 "$PID_h2"
     own h5 scale3
     own h2 scale3

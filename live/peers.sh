@@ -1,7 +1,7 @@
 # peers.sh - the programs of other makers on the link of link.sh: start them, and ask by them.
 #
 # Not run by itself; a script sources it after link.sh:
-#     R=/folder/of/unpacked/debs     # apt-get download systemd-resolved llmnrd; dpkg -x each into $R
+#     R=/folder/of/unpacked/debs     # apt-get download systemd-resolved llmnrd libnss-resolve; dpkg -x each into $R
 #     WORK=/tmp/folder               # logs and small configuration files go here
 #     TXT=file.txt                   # each command, its output and its exit status are written there
 #     . ./peers.sh
@@ -9,6 +9,7 @@
 #     start_resolved h1 name [Cache=yes ...]   # the words are lines of resolved.conf
 #     ask_llmnr h3 -I eth0 name
 #     ask_resolved h1 query name     # resolvectl's arguments
+#     ask_getent h1 ahosts name      # getent's arguments
 #     stop_peer PID HOST WHAT        # end one of them, and say so in $TXT
 #     stop_buses                     # at the end, before link_down
 #
@@ -162,6 +163,28 @@ ask_resolved() {
     echo "$host\$ \$R/usr/bin/resolvectl $*" >>"$TXT"
     nsenter -t "${RESOLVED_PID[$host]}" -m -u -n env DBUS_SYSTEM_BUS_ADDRESS=unix:path=/run/dbus/system_bus_socket \
         SYSTEMD_COLORS=0 "$R/usr/bin/resolvectl" --no-pager "$@" >>"$TXT" 2>&1 </dev/null
+    status=$?
+    echo "(exit status $status)" >>"$TXT"
+    return 0
+}
+
+# libnss-resolve, by which ordinary programs ask resolved, if R has it and it can be loaded here.
+nss_resolve() {
+    find "${R:-/nowhere}/" -name libnss_resolve.so.2 -exec python3 -c 'import ctypes, sys; ctypes.CDLL(sys.argv[1])' {} \; -print \
+        2>/dev/null | head -n 1
+}
+
+# Ask by getent, as an ordinary program does: the system's library finds hosts through libnss-resolve and the resolved of that host. The
+# nsswitch.conf that says so is seen by this getent alone.
+ask_getent() {
+    local host=$1 status
+    shift
+    echo 'hosts: resolve' >"$WORK/nsswitch.conf"
+    stamp
+    echo "$host\$ getent $*" >>"$TXT"
+    nsenter -t "${RESOLVED_PID[$host]}" -m -u -n unshare -m bash -c \
+        'mount --bind "$0" /etc/nsswitch.conf && LD_LIBRARY_PATH=$1 exec getent "${@:2}"' \
+        "$WORK/nsswitch.conf" "$(dirname "$(nss_resolve)")" "$@" >>"$TXT" 2>&1 </dev/null
     status=$?
     echo "(exit status $status)" >>"$TXT"
     return 0

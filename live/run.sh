@@ -3,12 +3,13 @@
 #
 # Run as root:   live/run.sh [CASE ...]        all cases if none is named; live/run.sh --list names them
 #   PROGRAMS  the folder of indicator, ask and make_table (target/programs; programs/build.sh makes them)
-#   R         the folder into which systemd-resolved and llmnrd were unpacked by dpkg -x; what is not there is skipped
+#   R         the folder into which systemd-resolved, llmnrd and libnss-resolve were unpacked by dpkg -x
 #
 # Prints a table: who asks or starts, who answers or holds the name, the family, the result, what is expected, and whether
 # they agree. The last line counts. The exit status is 0 only if nothing differs. Needs: bash, iproute2, util-linux, procps,
-# tcpdump, Python 3; for systemd-resolved also dbus-daemon. The cases are the functions case_NAME of cases_ask.sh and
-# cases_name.sh; each has a link of its own with hosts h1 to h5 (169.254.77.N, fe80::ff:fe00:N).
+# Python 3. A case that needs more (tcpdump, strace, getent, a program of R, for systemd-resolved also dbus-daemon) is skipped
+# with a word where that is missing. The cases are the functions case_NAME of cases_ask.sh and cases_name.sh; each has a link of
+# its own with hosts h1 to h5 (169.254.77.N, fe80::ff:fe00:N).
 
 HERE=$(cd "$(dirname "$0")" && pwd)
 . "$HERE/link.sh"
@@ -37,15 +38,21 @@ skip() {
     line "$CASE" "$1" "$2" "$3" "$4" - skipped
 }
 
-# ---- other makers' programs: which of them can run ----
+# ---- what is not everywhere: which of it can run ----
 
 have_llmnrd() { [ -x "${R:-}/usr/sbin/llmnrd" ]; }
 have_llmnr_query() { [ -x "${R:-}/usr/bin/llmnr-query" ]; }
 have_resolved() { [ -x "${R:-}/lib/systemd/systemd-resolved" ] && [ -x "$R/usr/bin/resolvectl" ] && command -v dbus-daemon >/dev/null; }
+have_getent() { command -v getent >/dev/null && [ -f /etc/nsswitch.conf ] && [ -n "$(nss_resolve)" ]; }
+have_tcpdump() { tcpdump --version >/dev/null 2>&1; }
+have_strace() { strace -o /dev/null -e inject=pselect6:delay_exit=1 true 2>/dev/null; }
 
 NO_LLMNRD='llmnrd is not in R'
 NO_LLMNR_QUERY='llmnr-query is not in R'
 NO_RESOLVED='no systemd-resolved, resolvectl or dbus-daemon'
+NO_GETENT='no getent, nsswitch.conf or libnss_resolve.so.2'
+NO_TCPDUMP='no tcpdump'
+NO_STRACE='no strace, or it may not trace'
 
 # ---- two links ----
 
@@ -68,15 +75,16 @@ join_cable() {
 
 # ---- answers as words ----
 
+declare -A ADDRESS=([4]=169.254.77. [6]=fe80::ff:fe00:) # with the number of the host behind it
+
 # The addresses in a text, sorted, on one line; "none" if there are none.
 addresses() { grep -oE '169\.254\.[0-9]+\.[0-9]+|fe80::[0-9a-f:]*[0-9a-f]' | sort -u | paste -sd ' ' | sed 's/^$/none/'; }
 
+# The addresses, in what ask prints, that came from sources of a family: from_family FAMILY
+from_family() { grep " from ${ADDRESS[$1]}" | sed 's/ from .*//' | addresses; }
+
 # by_ask FAMILY HOST ARGUMENT ..: the addresses that ask had from sources of a family
-by_ask() {
-    local source='from 169'
-    [ "$1" = 6 ] && source='from fe80'
-    in_host "$2" "$PROGRAMS/ask" -i eth0 "${@:3}" 2>/dev/null | grep "$source" | sed 's/ from .*//' | addresses
-}
+by_ask() { in_host "$2" "$PROGRAMS/ask" -i eth0 "${@:3}" 2>/dev/null | from_family "$1"; }
 
 # said_by_ask HOST ARGUMENT ..: its exit status and its message
 said_by_ask() {
@@ -86,12 +94,24 @@ said_by_ask() {
     echo "exit $status: ${message#ask: *: }"
 }
 
-# The addresses in what llmnr-query or resolvectl prints.
+# The addresses in what llmnr-query, resolvectl or getent prints.
 by_llmnr_query() { TXT=$WORK/said && : >"$TXT" && ask_llmnr "$@" && addresses <"$TXT"; }
 by_resolved() { TXT=$WORK/said && : >"$TXT" && ask_resolved "$@" && addresses <"$TXT"; }
+by_getent() { TXT=$WORK/said && : >"$TXT" && ask_getent "$@" && addresses <"$TXT"; }
+
+# Of h2, either address alone.
+one_of_two() { sed "s/^\(${ADDRESS[4]}2\|${ADDRESS[6]}2\)\$/one of the two/"; }
 
 # responders HOST NAME FAMILY: the sources that answer a query of type any
 responders() { in_host "$1" python3 "$HERE/probe.py" "$2" --family "$3" | cut -d' ' -f1 | addresses; }
+
+# any_asker NAME WHO NUMBER ..: a row for each family: h1 is answered by the hosts of these numbers
+any_asker() {
+    local family
+    for family in 4 6; do
+        row 'any asker' "$2" "IPv$family" "$(responders h1 "$1" "$family")" "$(printf "${ADDRESS[$family]}%s\n" "${@:3}" | addresses)"
+    done
+}
 
 # notify HOST NAME: a conflict notification by both families
 notify() {
