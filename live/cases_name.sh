@@ -184,6 +184,7 @@ case_joined_told() {
     sleep 1.5
     row 'notification by resolved' 'indicator, lower' both "$(defended h2 scale3)" 'unique/unique, defended'
     row 'notification by resolved' 'indicator, higher' both "$(defended h5 scale3)" 'stopped/stopped, defended'
+    ask_resolved h4 flush-caches   # it has kept the first of two answers, which may be either
     row 'resolvectl query -4' 'indicator, lower' IPv4 "$(by_resolved h4 query -4 scale3)" 169.254.77.2
     row 'resolvectl query -6' 'indicator, lower' IPv6 "$(by_resolved h4 query -6 scale3)" fe80::ff:fe00:2
 }

@@ -78,9 +78,10 @@ start_in() {
     LINK_PIDS+=("$STARTED")
 }
 
-# End one program that was started here.
+# End one program that was started here, also one that is held by SIGSTOP.
 stop_one() {
     kill "$1" 2>/dev/null
+    kill -CONT "$1" 2>/dev/null
     wait "$1" 2>/dev/null
     return 0
 }
