@@ -7,9 +7,10 @@
  *   --echo     what comes back is the query itself (echo.c), and counts as its answer
  *   --figures  prints four numbers and nothing else: queries, answers, and microseconds of processor time in user and in system mode
  *
- * Prints how many queries went out and how many answers came; of the process: its memory (VmRSS) before and after, its processor time
- * for a query, the datagrams that came when its socket was full, and how long it was kept waiting for a processor by others. Exit status:
- * 0 if its memory has not grown and it still answers; with --figures, if it still answers.
+ * Prints how many queries went out and how many answers came; those of a host that does not own the name yet (T is set) do not count. Of
+ * the process it prints: its memory (VmRSS) before and after, its processor time for a query, the datagrams that came when its socket was
+ * full, and how long it was kept waiting for a processor by others. Exit status: 0 if some queries were answered, its memory has not
+ * grown, and it still answers; with --figures, if it still answers.
  *
  * Linux only: it uses sendmmsg and /proc.
  */
@@ -38,7 +39,6 @@ typedef struct load {
     size_t query_len;
     uint64_t sent, answers;
     bool echo;
-    uint16_t last_flags;
 } load;
 
 /* What /proc says of a process. */
@@ -219,8 +219,9 @@ static void count_answers(load *l)
         }
         got = recvmmsg(l->socket, messages, BATCH, MSG_DONTWAIT, NULL);
         for (k = 0; k < got; k++) {
-            l->last_flags = (uint16_t)(octets[k][2] * 256 + octets[k][3]);
-            l->answers += messages[k].msg_len == 12 && (l->echo ? l->last_flags == 0 : (octets[k][2] & 0x80) && octets[k][7] > 0);
+            int flags = octets[k][2] * 256 + octets[k][3];
+
+            l->answers += messages[k].msg_len == 12 && (l->echo ? flags == 0 : flags == 0x8000 && octets[k][7] > 0);
         }
     } while (got == BATCH);
 }
@@ -258,7 +259,7 @@ static double send_all(load *l, uint64_t count, double rate)
 
 static bool still_answers(const load *l)
 {
-    return l->last_flags == (l->echo ? 0 : 0x8000) && l->answers == l->sent;
+    return l->answers == l->sent;
 }
 
 static void print_figures(const usage *before, const usage *after, uint64_t sent, uint64_t answers)
@@ -277,12 +278,13 @@ static bool report(const load *l, const usage *before, const usage *after, uint6
 
     printf("%llu queries in %.1f s (%.0f a second), %llu answers (%.3f %%)\n", (unsigned long long)sent, seconds,
            (double)sent / seconds, (unsigned long long)answers, 100.0 * (double)answers / (double)sent);
-    printf("memory %ld KiB before, %ld KiB after; %.2f us of processor time for each query that reached it (%.0f %% of one)\n",
-           before->memory, after->memory, cpu * 1e6 / ((double)sent - (double)drops), cpu * 100 / seconds);
+    printf("memory %ld KiB before, %ld KiB after%s; %.2f us of processor time for each query that reached it (%.0f %% of one)\n",
+           before->memory, after->memory, after->memory > before->memory ? ", which is more" : "",
+           cpu * 1e6 / ((double)sent - (double)drops), cpu * 100 / seconds);
     printf("%ld dropped at its full socket; it waited %.0f %% of the time for a processor\n", drops,
            (after->wait - before->wait) * 100 / seconds);
     printf("afterwards: %s\n", still ? "answers as before" : "does not answer as before");
-    return still && after->memory <= before->memory;
+    return answers > 0 && still && after->memory <= before->memory;
 }
 
 int main(int argc, char **argv)
@@ -322,7 +324,7 @@ int main(int argc, char **argv)
     after = look(argv[at]);
     sent = l.sent - sent;
     answers = l.answers - answers;
-    l.sent = l.answers = l.last_flags = 0;
+    l.sent = l.answers = 0;
     send_all(&l, 10, 100);
     wait_for_answers(&l, 1000);
     if (!figures)
