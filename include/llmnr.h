@@ -16,7 +16,7 @@
  * - `id` is fresh for each call, best drawn at random. It is used if the call begins a query of its own.
  * - Every field of a struct is set, for example by `= {0}`: a host with all interfaces unused, or an ended lookup. Structs are compared
  *   field by field, since what stands between the fields is left open.
- * - A call takes up to 8 KiB of stack, with the structs that it is given.
+ * - A call takes up to 2 KiB of stack, with its arguments and its result.
  *
  * Link with libllmnr_c.a, for x86-64. It needs nothing but memcpy and memset of the C library.
  */
