@@ -66,13 +66,13 @@ module _ (s : FlatSettings) (clock : ℕ) (n : FlatNames) where
   stays (suc (suc (suc zero))) k c x l m = ap (λ (y : Name). y .state) (getD-set-same (map nameOf (n .names)) k _ offName (omega (arith, m, length-map (n .names) nameOf)))
   stays (suc (suc (suc (suc i)))) k c x l m = absurd (omega (arith, l))
 
-  pub flattens : (r : Served) (out : List ℕ) (i : ℕ) {d : Done} → length (n .names) ≡ mostNames → Serves r out (seen s clock n) i d → done (flatServed r) out ≡ stepOn i d
+  pub flattens : (r : Served) (out : List ℕ) (i : ℕ) {d : Done} → (changes (resultOf (r .outcome)) ≡ true → length (n .names) ≡ mostNames) → Serves r out (seen s clock n) i d → done (flatServed r) out ≡ stepOn i d
   flattens r out i {d} e v = go ∙ ap (stepOn i) (v .gives)
     where
       go : done (flatServed r) out ≡ stepOn i (servedBy r out (seen s clock n) i)
       go =
           split (changes (resultOf (r .outcome)))
-          (λ c. rw (c, stays i (nameTold (resultOf (r .outcome))) (r .clock) (r .name .state) (v .within c .0) (omega (arith, e, v .within c .1))))
+          (λ c. rw (c, stays i (nameTold (resultOf (r .outcome))) (r .clock) (r .name .state) (v .within c .0) (omega (arith, e c, v .within c .1))))
           (λ c. rw c)
 
 -- the number of the name that a result tells

@@ -6,6 +6,7 @@ ghost use lib.ListN.{length, getD};
 ghost use lib.Dec.{ltb};
 ghost use Rattle.name_table.specs.Bounds.{mostNames};
 ghost use Rattle.host.specs.State.{offName, settingsOf};
+ghost use Rattle.host.specs.Outcomes.{nowhere};
 ghost use Rattle.host.specs.Tick.{isDue, due, none, dueFrom};
 ghost use Rattle.llmnr_c.specs.Numbers.{stateOff};
 ghost use Rattle.llmnr_c.specs.FlatHost.{stateOf, nameOf, bare as bareName, flatName, flatNames, flatHost, flatServed};
@@ -15,9 +16,11 @@ use host::Host;
 use host::Interface;
 use host::Name;
 use host::NameState;
+use host::Outcome;
 use host::Timer;
 use octets::Endpoint;
 use octets::Setting;
+use refusal::Refusal;
 use responder::served::Served;
 
 // A name: the number of its state, and of a state with data these; all else is zero.
@@ -273,5 +276,21 @@ pub(crate) fn step(served: Served) -> FlatStep
         outcome: outcome,
         to: to,
         changed: changed,
+    }
+}
+
+// A refusal, as a step.
+pub(crate) fn refused(clock: u64, refusal: Refusal) -> FlatStep
+    ensures { λ r. ⌜ r ≡ flatServed (record { name = offName; clock = clock; outcome = Outcome.Refused refusal; to = nowhere }) ⌝ }
+{
+    let name = bare(FlatName::OFF);
+    let outcome = outcome::refused(refusal);
+    let to = host::nowhere();
+    FlatStep {
+        clock: clock,
+        name: name,
+        outcome: outcome,
+        to: to,
+        changed: false,
     }
 }

@@ -104,6 +104,10 @@ pub extern "C" fn llmnr_receive(
     let held = names.names;
     let room = out.len();
     let h = heard::hear(room, s, clock, table, interface, from, to, datagram, time);
+    if h.refused {
+        let why = h.refusal;
+        return flat::refused(clock, why);
+    }
     let n = flat::name_at(held, h.name);
     let all = settings.interfaces;
     let step = heard::answer(h, n, all, s, clock, table, from, datagram, time, id, out);

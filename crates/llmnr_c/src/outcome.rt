@@ -57,7 +57,7 @@ fn offset(refusal: Refusal) -> usize
     }
 }
 
-fn refused(refusal: Refusal) -> FlatOutcome
+pub(crate) fn refused(refusal: Refusal) -> FlatOutcome
     ensures { λ r. ⌜ r ≡ flatRefusal (reportOf refusal) ⌝ }
 {
     FlatOutcome {

@@ -32,7 +32,7 @@ returns c =
     let l = n .before .before .before in
     let g = l .before .before .before .args in
     let v = s .start .ensures _ (sees (g .t1) (g .clock) (g .names) (g .interface) _ (l .slot .ensures .0)) (state-seen (g .t1) (g .clock) (g .names) (g .interface) (g .name) _ (n .name-at .ensures .0)) in
-    rw (c .step .ensures) (flattens (g .t1) (g .clock) (g .names) (s .start .result) _ (g .interface) (n .name-at .ensures .1) v, within (s .start .result) (g .interface) (v .within))
+    rw (c .step .ensures) (flattens (g .t1) (g .clock) (g .names) (s .start .result) _ (g .interface) (λ x. n .name-at .ensures .1) v, within (s .start .result) (g .interface) (v .within))
 
 pub llmnr-start-spec : {M : Type 1} → statement M
 llmnr-start-spec =

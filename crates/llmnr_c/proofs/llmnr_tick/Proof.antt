@@ -39,7 +39,7 @@ returns c =
     let v =
     s .tick .ensures (seen (g .t1) (g .clock) (g .names)) (sees (g .t1) (g .clock) (g .names) (g .interface) _ (l .slot .ensures .0))
     (rw (names-seen (g .t1) (g .clock) (g .names) (g .interface)) (d .find-due .ensures)) (state-seen (g .t1) (g .clock) (g .names) (g .interface) _ _ (n .name-at .ensures .0)) in
-    rw (c .step .ensures) (flattens (g .t1) (g .clock) (g .names) (s .tick .result) _ (g .interface) (n .name-at .ensures .1) v, within (s .tick .result) (g .interface) (v .within))
+    rw (c .step .ensures) (flattens (g .t1) (g .clock) (g .names) (s .tick .result) _ (g .interface) (λ x. n .name-at .ensures .1) v, within (s .tick .result) (g .interface) (v .within))
 
 pub llmnr-tick-spec : {M : Type 1} → statement M
 llmnr-tick-spec =
