@@ -6,7 +6,8 @@
  * hosts and lookups may live side by side, and calls on different ones may run at the same time.
  *
  * Each call is proved to do what the library's definition says on the state that the structs stand for, for every value of every field.
- * docs/RULES.md says what that is. Rule numbers below (P3, K4) are of that page.
+ * docs/RULES.md says what that is. Rule numbers below (P3, K4) are of that page. llmnr_take and llmnr_lookup_take are plain C in this header:
+ * what they are to do is proved to give the definition's next state, and they themselves are tested.
  *
  * What the caller owes:
  * - A pointer comes with its length in octets, right after it, and is only used during the call. The octets stay the caller's.

@@ -22,7 +22,7 @@ use Rattle.checks.specs.Messages.{slotOf}
 use Rattle.responder.specs.Served.{Sees, changes, nameTold, hostAfter, servedBy, Serves}
 use Rattle.responder.specs.declared.served.Served.{Served}
 use Rattle.llmnr_c.specs.Outcomes.{flatOutcome}
-use Rattle.llmnr_c.specs.FlatHost.{nameOf, seen, flatServed, done, stepOn}
+use Rattle.llmnr_c.specs.FlatHost.{nameOf, seen, flatState, flatServed, FlatDone, done, stepOn}
 use Rattle.llmnr_c.specs.declared.flat.FlatSettings.{FlatSettings}
 use Rattle.llmnr_c.specs.declared.flat.FlatNames.{FlatNames}
 
@@ -72,8 +72,11 @@ module _ (s : FlatSettings) (clock : ℕ) (n : FlatNames) where
       go : done (flatServed r) out ≡ stepOn i (servedBy r out (seen s clock n) i)
       go =
           split (changes (resultOf (r .outcome)))
-          (λ c. rw (c, stays i (nameTold (resultOf (r .outcome))) (r .clock) (r .name .state) (v .within c .0) (omega (arith, e c, v .within c .1))))
+          (λ c. rw c (ap given (sym (stays i (nameTold (resultOf (r .outcome))) (r .clock) (r .name .state) (v .within c .0) (omega (arith, e c, v .within c .1))))))
           (λ c. rw c)
+        where
+          given : NameState → FlatDone
+          given x = done (record { clock = r .clock; name = flatState x; outcome = flatOutcome (resultOf (r .outcome)); to = r .to; changed = true }) out
 
 -- the number of the name that a result tells
 pub told-number : (x : Result) → nameTold x ≡ flatOutcome x .name

@@ -3,3 +3,4 @@ pub mod RoundTrip
 pub mod Told
 pub mod Calls
 pub mod Taken
+pub mod Whole
