@@ -6,3 +6,6 @@ pub mod Names
 pub mod Folding
 pub mod Readings
 pub mod Plain
+pub mod SideBySide
+pub mod Comparison
+pub mod ComparisonExamples

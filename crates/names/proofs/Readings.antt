@@ -20,7 +20,7 @@ use Rattle.names.specs.declared.RecordNameRead.{RecordNameRead}
 use Rattle.names.specs.declared.RecordNameRead.the-variants.{Good, Bad}
 use Rattle.names.specs.RecordNameWalk.{target, goesOn, atRoot, pastLabel, followed, turnAt, recordNameFrom, walkAt, turns, recordNameAt, expandedFrom, expandedAt}
 use Rattle.names.proofs.Lists.{stand-drop, from-here, there, here}
-use Rattle.names.proofs.RecordNameWalk.{Met, root, one, jump, wrong, met, turn-root, turn-label, turn-jump, Within, within-start, record-name-fits}
+use Rattle.names.proofs.RecordNameWalk.{Met, root, one, jump, wrong, met, turn-root, turn-label, turn-jump, Within, within-start, no-part, record-name-fits}
 use Rattle.names.proofs.Expansion.{expands-good}
 use Rattle.names.proofs.Names.{encode-some, encode-labels}
 
@@ -325,7 +325,7 @@ pub reading-is-name : (s : List ℕ) (at : ℕ) (r : RecordName) (f : ReadingAt 
 reading-is-name s at r f =
     record { labels = reads-labels s at at (f .steps) (f .reads); short = omega (arith, f .short, f .len-is) }
 
--- the octets that a turn adds: a label's with its length, or none
+-- the octets that a label adds: its own with their length
 label-part : (s : List ℕ) (w : Walk) (l : List ℕ) (c : ℕ) → Stand s (w .at) (length l ∷ l) → c ≡ length l → w .at + 1 + c ≤ length s
     → partOf s (w .at) (w .at + (w .len + 1 + c - w .len)) ≡ length l ∷ l
 label-part s w l c st is h =
@@ -333,13 +333,6 @@ label-part s w l c st is h =
     let b : w .at + (w .len + 1 + c - w .len) ≤ length s = omega arith in
     let z : w .at + (w .len + 1 + c - w .len) - w .at ≡ suc (length l) = omega arith in
     part-in s (w .at) (w .at + (w .len + 1 + c - w .len)) a b ∙ ap (λ (n : ℕ). take n (drop (w .at) s)) z ∙ st
-
-no-part : (s : List ℕ) (w : Walk) → w .at < length s → partOf s (w .at) (w .at + (w .len - w .len)) ≡ []
-no-part s w h =
-    let a : w .at ≤ w .at + (w .len - w .len) = omega arith in
-    let b : w .at + (w .len - w .len) ≤ length s = omega arith in
-    let z : w .at + (w .len - w .len) - w .at ≡ 0 = omega arith in
-    part-in s (w .at) (w .at + (w .len - w .len)) a b ∙ ap (λ (n : ℕ). take n (drop (w .at) s)) z
 
 expand-complete : (k : ℕ) (s : List ℕ) (w : Walk) (r : List Step) → Octets s → Readable k s w r
     → expandedFrom k s w ≡ encode (labels r)

@@ -4,11 +4,11 @@ use mathlib.Core.Path.{_≡_, refl, sym, ap, _∙_, subst}
 use mathlib.Core.List.{List, [], _∷_, _++_}
 use native.Mathlib.Omega.{arith}
 use lib.Dec.{ltb, leb, eqb}
-use lib.ListN.{length, length-append}
+use lib.ListN.{length, take, drop, length-append}
 use borrow.Author.Tests.{eq-eqb, ne-eqb, le-ltb, le-leb, lt-leb, eqb-true, eqb-false, ltb-false, leb-true, leb-false}
 use Rattle.octets.specs.Octets.{octetAt, partOf}
 use Rattle.octets.proofs.Tests.{split}
-use Rattle.octets.proofs.Octets.{length-part}
+use Rattle.octets.proofs.Octets.{length-part, part-in}
 use Rattle.names.specs.Bounds.{longestLabel, longestName, mostPointers, leastTarget, pointerMark}
 use Rattle.names.specs.declared.Walk.{Walk}
 use Rattle.names.specs.declared.Turn.{Turn}
@@ -79,6 +79,9 @@ left w = (longestName - w .len) + (mostPointers - w .pointers)
 pub within-start : (at : ℕ) → Within (walkAt at)
 within-start at = record { short = omega arith; few = omega arith }
 
+pub starts-within : (at : ℕ) (w : Walk) → w ≡ walkAt at → Within w
+starts-within at w e = subst (λ (v : Walk). Within v) (sym e) (within-start at)
+
 -- from w a turn goes on to v
 pub record Onward (s : List ℕ) (w v : Walk) : Type 0 where
   pub inside : w .at < length s
@@ -144,22 +147,24 @@ abbrev pub expandedHere : List ℕ → Walk → List ℕ
 expandedHere s w = expandedFrom (left w) s w
 
 -- where they start
-pub walk-start : (s : List ℕ) (at : ℕ) (w : Walk) → w ≡ walkAt at → Within w × (recordNameAt s at ≡ recordNameHere s w)
-walk-start s at w e =
-    subst (λ (v : Walk). Within v × (recordNameAt s at ≡ recordNameHere s v)) (sym e) (within-start at, refl)
-
 pub expand-start : (s : List ℕ) (at : ℕ) (w : Walk) → w ≡ walkAt at → expandedFrom turns s (walkAt at) ≡ expandedHere s w
 expand-start s at w e = subst (λ (v : Walk). expandedFrom turns s (walkAt at) ≡ expandedHere s v) (sym e) refl
 
 -- their turns
+same-read : (t : Turn) (f g : Walk → RecordNameRead) → ((v : Walk) → t ≡ More v → f v ≡ g v) → onTurn t f ≡ onTurn t g
+same-read (More v) f g h = h v refl
+same-read (End r) f g h = refl
+same-read Wrong f g h = refl
+
 walk-turn : (s : List ℕ) (w : Walk) → Within w → recordNameHere s w ≡ onTurn (turnAt s w) (λ v. recordNameHere s v)
 unfolding recordNameFrom
-walk-turn = turned recordNameFrom (λ s w t f. onTurn t f) (λ k s w. refl) same
-  where
-    same : (s : List ℕ) (w : Walk) (t : Turn) (f g : Walk → RecordNameRead) → ((v : Walk) → t ≡ More v → f v ≡ g v) → onTurn t f ≡ onTurn t g
-    same s w (More v) f g h = h v refl
-    same s w (End r) f g h = refl
-    same s w Wrong f g h = refl
+walk-turn = turned recordNameFrom (λ s w t f. onTurn t f) (λ k s w. refl) (λ s w. same-read)
+
+-- the walk with fuel for a whole name
+pub walk-fuel : (s : List ℕ) (w : Walk) → Within w → recordNameFrom turns s w ≡ recordNameHere s w
+unfolding recordNameFrom
+walk-fuel s w b =
+    fuel recordNameFrom (λ s w t f. onTurn t f) (λ k s w. refl) (λ s w. same-read) turns (left w) s w b (omega arith) (omega arith)
 
 expand-turn : (s : List ℕ) (w : Walk) → Within w → expandedHere s w ≡ onExpand s w (turnAt s w) (λ v. expandedHere s v)
 unfolding expandedFrom
@@ -189,6 +194,14 @@ module _ (s : List ℕ) (w : Walk) (b : Within w) where
 
   pub expand-wrong : turnAt s w ≡ Wrong → expandedHere s w ≡ []
   expand-wrong e = expand-turn s w b ∙ rw e
+
+-- a pointer adds no octets to the expanded name
+pub no-part : (s : List ℕ) (w : Walk) → w .at < length s → partOf s (w .at) (w .at + (w .len - w .len)) ≡ []
+no-part s w h =
+    let a : w .at ≤ w .at + (w .len - w .len) = omega arith in
+    let b : w .at + (w .len - w .len) ≤ length s = omega arith in
+    let z : w .at + (w .len - w .len) - w .at ≡ 0 = omega arith in
+    part-in s (w .at) (w .at + (w .len - w .len)) a b ∙ ap (λ (n : ℕ). take n (drop (w .at) s)) z
 
 -- What a good end says of a walk: it stands inside s, and so does the offset after the name; the bounds are kept; the octets of the
 -- expanded name are as many as it tells.

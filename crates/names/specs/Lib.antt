@@ -4,3 +4,4 @@ pub mod Folding
 pub mod Readings
 pub mod NameWalk
 pub mod RecordNameWalk
+pub mod Comparison

@@ -3,10 +3,12 @@ ghost use mathlib.Core.Path.{_≡_};
 ghost use Prim.Native.Nat.{_+_, _≤_, _<_};
 ghost use lib.ListN.{length};
 ghost use Rattle.octets.specs.Octets.{octetAt, put, splice};
-ghost use Rattle.names.specs.Bounds.{longestName, pointerMark};
+ghost use Rattle.octets.specs.Tests.{_and_};
+ghost use Rattle.names.specs.Bounds.{longestName, mostPointers, pointerMark};
 ghost use Rattle.names.specs.Folding.{folded, sameName};
 ghost use Rattle.names.specs.NameWalk.{nameAt};
-ghost use Rattle.names.specs.RecordNameWalk.{turnAt, pointerTurn, goesOn, walkAt, turns, recordNameAt, expandedFrom, expandedAt};
+ghost use Rattle.names.specs.RecordNameWalk.{turnAt, pointerTurn, goesOn, walkAt, turns, recordNameFrom, recordNameAt, expandedFrom, expandedAt};
+ghost use Rattle.names.specs.Comparison.{isEnd, endsFrom, sameRecordName};
 
 // A name without pointers: its octets with the zero octet.
 pub struct Name {
@@ -18,6 +20,9 @@ impl Name {
     pub const LABEL: usize = 63;
 
     pub const LONGEST: usize = 255;
+
+    // From so many octets on, comparing many at once is quicker than comparing one by one.
+    const MANY: usize = 16;
 }
 
 pub enum NameRead {
@@ -200,11 +205,12 @@ fn next_turn(s: &[u8], w: Walk) -> Turn
     pointer_turn(s, w)
 }
 
-// Reads the name at an offset of a record.
-pub fn read_record_name(s: &[u8], at: usize) -> RecordNameRead
-    ensures { λ r. ⌜ r ≡ recordNameAt (now (s .entry)) at ⌝ }
+// Reads on from a walk to the end of the name.
+fn read_from(s: &[u8], from: Walk) -> RecordNameRead
+    requires { ⌜ (from .len < longestName) × (from .pointers ≤ mostPointers) ⌝ }
+    ensures { λ r. ⌜ r ≡ recordNameFrom turns (now (s .entry)) from ⌝ }
 {
-    let mut w = Walk::start(at);
+    let mut w = from;
     loop {
         let t = next_turn(s, w);
         match t {
@@ -219,6 +225,13 @@ pub fn read_record_name(s: &[u8], at: usize) -> RecordNameRead
             }
         }
     }
+}
+
+// Reads the name at an offset of a record.
+pub fn read_record_name(s: &[u8], at: usize) -> RecordNameRead
+    ensures { λ r. ⌜ r ≡ recordNameAt (now (s .entry)) at ⌝ }
+{
+    read_from(s, Walk::start(at))
 }
 
 // Copies the labels of the name at an offset, and its zero octet, to the start of a buffer that has room.
@@ -263,4 +276,83 @@ pub fn expand_name(s: &[u8], at: usize, out: &mut [u8]) -> RecordNameRead
     }
     copy_labels(s, at, out);
     read
+}
+
+// Whether two labels are equal under folding. Letters of one case, which is what most traffic has, are not folded.
+fn same_octets(a: &[u8], b: &[u8]) -> bool
+    ensures { λ r. ⌜ r ≡ sameName (now (a .entry)) (now (b .entry)) ⌝ }
+{
+    if a.len() != b.len() {
+        return false;
+    }
+    let mut i = 0;
+    while i < a.len() {
+        if a[i] != b[i] {
+            if fold(a[i]) != fold(b[i]) {
+                return false;
+            }
+        }
+        i = i + 1;
+    }
+    true
+}
+
+// Whether two labels, each with its length, are equal under folding.
+fn same_label(a: &[u8], b: &[u8]) -> bool
+    ensures { λ r. ⌜ r ≡ sameName (now (a .entry)) (now (b .entry)) ⌝ }
+{
+    if a.len() < Name::MANY {
+        same_octets(a, b)
+    } else {
+        same_name(a, b)
+    }
+}
+
+// Whether two names end alike: the one at a turn x, and the other, from a walk on, with nothing but its zero octet.
+fn end_alike(x: Turn, t: &[u8], b: Walk) -> bool
+    requires { ⌜ (b .len < longestName) × (b .pointers ≤ mostPointers) ⌝ }
+    ensures { λ r. ⌜ r ≡ (isEnd x and endsFrom (now (t .entry)) b) ⌝ }
+{
+    let Turn::End(_) = x else {
+        return false;
+    };
+    let read = read_from(t, b);
+    let RecordNameRead::Good(r) = read else {
+        return false;
+    };
+    r.len == b.len + 1
+}
+
+// Whether the names at two offsets are equal, each with or without pointers, in one message or two. They are compared where they stand,
+// side by side: a turn follows a pointer of the one or of the other, or compares a label of both.
+pub fn same_record_name(s: &[u8], p: usize, t: &[u8], q: usize) -> bool
+    ensures { λ r. ⌜ r ≡ sameRecordName (now (s .entry)) p (now (t .entry)) q ⌝ }
+{
+    let mut a = Walk::start(p);
+    let mut b = Walk::start(q);
+    loop {
+        let x = next_turn(s, a);
+        let Turn::More(v) = x else {
+            return end_alike(x, t, b);
+        };
+        if v.pointers != a.pointers {
+            a = v;
+        } else {
+            let y = next_turn(t, b);
+            let Turn::More(u) = y else {
+                return false;
+            };
+            if u.pointers != b.pointers {
+                b = u;
+            } else {
+                let label = octets::part(s, a.at, v.at);
+                let other = octets::part(t, b.at, u.at);
+                if !same_label(label, other) {
+                    return false;
+                }
+                a = v;
+                b = u;
+            }
+        }
+    }
 }

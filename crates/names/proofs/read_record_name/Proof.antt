@@ -1,69 +1,21 @@
--- `names::read_record_name` meets its contract. The loop's invariant: the name at `at` is what the walk finds from w on, with fuel
--- for what is left of 255 octets and 16 pointers.
-use mathlib.Core.Path.{_≡_, sym, _∙_}
+-- `names::read_record_name` meets its contract.
+use mathlib.Core.Path.{_∙_, ap}
+use native.Mathlib.Omega.{arith}
 use borrow.Author.Needs.{needs}
-use Rattle.names.specs.RecordNameWalk.{recordNameAt}
-use Rattle.names.proofs.RecordNameWalk.{Within, left, recordNameHere, walk-start, onward, walk-more, walk-end, walk-wrong}
+use Rattle.names.specs.declared.Walk.{Walk}
+use Rattle.names.specs.RecordNameWalk.{recordNameFrom, turns}
+use Rattle.names.proofs.RecordNameWalk.{starts-within}
 use Rattle.names.proofs.read_record_name.Statement.{statement}
 use Rattle.names.proofs.read_record_name.Tie as tie
 
-abbrev Inv-loop : tie.InvT-loop
-Inv-loop s at w₀ w = Within w × (recordNameAt s at ≡ recordNameHere s w)
-
-abbrev μ-loop : tie.MeasureT-loop
-μ-loop s at w₀ w = left w
-
-start-requires : tie.Need-start-requires Inv-loop μ-loop
+start-requires : tie.Need-start-requires
 start-requires c κs = search needs
 
-loop-holds : tie.Need-loop-holds Inv-loop μ-loop
-loop-holds c = walk-start _ _ _ (c .start .ensures)
+read-from-requires : tie.Need-read-from-requires
+read-from-requires c κs = let w = starts-within _ _ (c .start .ensures) in (w .short, w .few)
 
-next-turn-requires : tie.Need-next-turn-requires Inv-loop μ-loop
-next-turn-requires c κs = search needs
-
-enum-known-t : tie.Need-enum-known-t Inv-loop μ-loop
-enum-known-t c = search needs
-
-loop-less : tie.Need-loop-less Inv-loop μ-loop
-loop-less c =
-    onward _ _ _ (c .before .before .before .before .loop .inv .0) (sym (c .before .before .before .next-turn .ensures) ∙ c .before .t .given .1) .nearer
-
-loop-again : tie.Need-loop-again Inv-loop μ-loop
-loop-again c =
-    let i = c .before .before .before .before .loop .inv in
-    let t = sym (c .before .before .before .next-turn .ensures) ∙ c .before .t .given .1 in
-    (onward _ _ _ (i .0) t .within, i .1 ∙ walk-more _ _ (i .0) _ t)
-
-enum-known-t-2 : tie.Need-enum-known-t-2 Inv-loop μ-loop
-enum-known-t-2 c = search needs
-
-returns : tie.Need-returns Inv-loop μ-loop
-returns c =
-    let i = c .before .before .before .before .loop .inv in
-    sym (i .1 ∙ walk-end _ _ (i .0) _ (sym (c .before .before .before .next-turn .ensures) ∙ c .before .t2 .given .1))
-
-enum-told : tie.Need-enum-told Inv-loop μ-loop
-enum-told c = search needs
-
-returns-2 : tie.Need-returns-2 Inv-loop μ-loop
-returns-2 c =
-    let i = c .before .before .before .loop .inv in
-    sym (i .1 ∙ walk-wrong _ _ (i .0) (sym (c .before .before .next-turn .ensures) ∙ c .enum-told .given .1))
+returns : tie.Need-returns
+returns c = c .read-from .ensures ∙ ap (λ (w : Walk). recordNameFrom turns (c .before .before .before .args .s .now) w) (c .before .start .ensures)
 
 pub read-record-name-spec : {M : Type 1} → statement M
-read-record-name-spec =
-    tie.close
-    (tie.spec
-    Inv-loop
-    μ-loop
-    start-requires
-    loop-holds
-    next-turn-requires
-    enum-known-t
-    loop-less
-    loop-again
-    enum-known-t-2
-    returns
-    enum-told
-    returns-2)
+read-record-name-spec = tie.close (tie.spec start-requires read-from-requires returns)
