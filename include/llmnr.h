@@ -293,6 +293,12 @@ typedef struct llmnr_record_read {
 /* Reads the record at an offset of a datagram. The first answer of a response stands at `at` of its outcome, and there are `answers`. */
 llmnr_record_read llmnr_record(const uint8_t *datagram, size_t datagram_len, size_t at);
 
+/*
+ * Whether the names at two offsets are equal, each with or without compression pointers, in two messages or in one. A name that cannot be
+ * read equals nothing. A record begins with its owner's name; the name of a question stands at 12.
+ */
+bool llmnr_same_name(const uint8_t *message, size_t message_len, size_t at, const uint8_t *other, size_t other_len, size_t other_at);
+
 /* A good table has so many names; of another, at is the offset of the first bad entry. */
 typedef struct llmnr_table_check {
     bool good;

@@ -7,6 +7,7 @@ ghost use mathlib.Core.Path.{_≡_};
 ghost use mathlib.Core.Bool.{true};
 ghost use Prim.Native.Nat.{_<_};
 ghost use Rattle.octets.specs.Bounds.{interfaces};
+ghost use Rattle.names.specs.Comparison.{sameRecordName};
 ghost use Rattle.name_table.specs.Bounds.{mostNames};
 ghost use Rattle.name_table.specs.Check.{checkTable};
 ghost use Rattle.message.specs.Records.{recordAt};
@@ -199,4 +200,12 @@ pub extern "C" fn llmnr_check_table(table: &[u8]) -> FlatTable
     ensures { λ r. ⌜ r ≡ flatTable (checkTable (now (table .entry))) ⌝ }
 {
     reading::check_table(table)
+}
+
+// Whether the names at two offsets are equal, each with or without pointers, in one message or two.
+#[no_mangle]
+pub extern "C" fn llmnr_same_name(s: &[u8], p: usize, t: &[u8], q: usize) -> bool
+    ensures { λ r. ⌜ r ≡ sameRecordName (now (s .entry)) p (now (t .entry)) q ⌝ }
+{
+    names::same_record_name(s, p, t, q)
 }

@@ -32,16 +32,16 @@ pub record SameNames (s : List ℕ) (p : ℕ) (t : List ℕ) (q : ℕ) : Type 0 
   pub other-reading : ReadingAt t q other
   pub same : foldedName (labels (reading .steps)) ≡ foldedName (labels (other-reading .steps))
 
--- How the comparison ends: the one name is at its zero octet, and
+-- How the comparison ends: the one name is at its zero octet,
 abbrev pub isEnd : Turn → Bool
 isEnd (More v) = false
 isEnd (End r) = true
 isEnd Wrong = false
 
--- of the other one octet is left, from a walk on.
+-- and of the other one octet is left, after so many.
 abbrev pub oneMore : RecordNameRead → ℕ → Bool
 oneMore (Good r) n = eqb (r .len) (n + 1)
 oneMore Bad n = false
 
 abbrev pub endsFrom : List ℕ → Walk → Bool
-endsFrom t b = oneMore (recordNameFrom turns t b) (b .len)
+endsFrom s w = oneMore (recordNameFrom turns s w) (w .len)

@@ -278,17 +278,17 @@ pub fn expand_name(s: &[u8], at: usize, out: &mut [u8]) -> RecordNameRead
     read
 }
 
-// Whether two labels are equal under folding. Letters of one case, which is what most traffic has, are not folded.
-fn same_octets(a: &[u8], b: &[u8]) -> bool
-    ensures { λ r. ⌜ r ≡ sameName (now (a .entry)) (now (b .entry)) ⌝ }
+// Whether two labels are equal under folding. Octets that are equal as they are, which is what most traffic has, are not folded.
+fn same_octets(l: &[u8], m: &[u8]) -> bool
+    ensures { λ r. ⌜ r ≡ sameName (now (l .entry)) (now (m .entry)) ⌝ }
 {
-    if a.len() != b.len() {
+    if l.len() != m.len() {
         return false;
     }
     let mut i = 0;
-    while i < a.len() {
-        if a[i] != b[i] {
-            if fold(a[i]) != fold(b[i]) {
+    while i < l.len() {
+        if l[i] != m[i] {
+            if fold(l[i]) != fold(m[i]) {
                 return false;
             }
         }
@@ -298,29 +298,38 @@ fn same_octets(a: &[u8], b: &[u8]) -> bool
 }
 
 // Whether two labels, each with its length, are equal under folding.
-fn same_label(a: &[u8], b: &[u8]) -> bool
-    ensures { λ r. ⌜ r ≡ sameName (now (a .entry)) (now (b .entry)) ⌝ }
+fn same_label(l: &[u8], m: &[u8]) -> bool
+    ensures { λ r. ⌜ r ≡ sameName (now (l .entry)) (now (m .entry)) ⌝ }
 {
-    if a.len() < Name::MANY {
-        same_octets(a, b)
+    if l.len() < Name::MANY {
+        same_octets(l, m)
     } else {
-        same_name(a, b)
+        same_name(l, m)
     }
 }
 
-// Whether two names end alike: the one at a turn x, and the other, from a walk on, with nothing but its zero octet.
-fn end_alike(x: Turn, t: &[u8], b: Walk) -> bool
-    requires { ⌜ (b .len < longestName) × (b .pointers ≤ mostPointers) ⌝ }
-    ensures { λ r. ⌜ r ≡ (isEnd x and endsFrom (now (t .entry)) b) ⌝ }
+// Whether of a name only the zero octet is left, from a walk on.
+fn at_root(s: &[u8], w: Walk) -> bool
+    requires { ⌜ (w .len < longestName) × (w .pointers ≤ mostPointers) ⌝ }
+    ensures { λ r. ⌜ r ≡ endsFrom (now (s .entry)) w ⌝ }
 {
-    let Turn::End(_) = x else {
-        return false;
-    };
-    let read = read_from(t, b);
-    let RecordNameRead::Good(r) = read else {
-        return false;
-    };
-    r.len == b.len + 1
+    let read = read_from(s, w);
+    match read {
+        RecordNameRead::Good(r) => r.len == w.len + 1,
+        RecordNameRead::Bad => false,
+    }
+}
+
+// Whether two names end alike: the one at a turn that does not go on, the other from a walk on.
+fn end_alike(turn: Turn, s: &[u8], w: Walk) -> bool
+    requires { ⌜ (w .len < longestName) × (w .pointers ≤ mostPointers) ⌝ }
+    ensures { λ r. ⌜ r ≡ (isEnd turn and endsFrom (now (s .entry)) w) ⌝ }
+{
+    match turn {
+        Turn::More(_) => false,
+        Turn::End(_) => at_root(s, w),
+        Turn::Wrong => false,
+    }
 }
 
 // Whether the names at two offsets are equal, each with or without pointers, in one message or two. They are compared where they stand,

@@ -11,10 +11,10 @@ use Rattle.names.proofs.same_octets.Statement.{statement}
 use Rattle.names.proofs.same_octets.Tie as tie
 
 abbrev Inv-loop : tie.InvT-loop
-Inv-loop a b i₀ i = (i ≤ length a) × (length a ≡ length b) × (sameName a b ≡ sameName (drop i a) (drop i b))
+Inv-loop l m i₀ i = (i ≤ length l) × (length l ≡ length m) × (sameName l m ≡ sameName (drop i l) (drop i m))
 
 abbrev μ-loop : tie.MeasureT-loop
-μ-loop a b i₀ i = length a - i
+μ-loop l m i₀ i = length l - i
 
 returns : tie.Need-returns Inv-loop μ-loop
 returns c = sym (unequal-lengths _ _ (c .if1 .taken))
@@ -42,13 +42,13 @@ fold-requires-2 c κs = search needs
 
 returns-2 : tie.Need-returns-2 Inv-loop μ-loop
 returns-2 c =
-    let l = c .before .before .before .before .before .before .before .before .before .loop in
+    let w = c .before .before .before .before .before .before .before .before .before .loop in
     let h = c .before .before .before .before .before .before .before .before .loop-test .taken in
     let g = c .before .before .before .before .before .before .before .before .before .before .before .before .before .args in
-    let k : l .i < length (g .b .now) = omega (arith, l .inv .1) in
+    let k : w .i < length (g .m .now) = omega (arith, w .inv .1) in
     let x = c .before .before .before .fold .ensures in
     let y = c .before .fold2 .ensures in
-    sym (l .inv .2 ∙ same-off (g .a .now) (g .b .now) (l .i) h k (λ e. c .if3 .taken (x ∙ e ∙ sym y)))
+    sym (w .inv .2 ∙ same-off (g .l .now) (g .m .now) (w .i) h k (λ e. c .if3 .taken (x ∙ e ∙ sym y)))
 
 add-i : tie.Need-add-i Inv-loop μ-loop
 add-i c = search needs
@@ -58,22 +58,22 @@ loop-less c = search needs
 
 loop-again : tie.Need-loop-again Inv-loop μ-loop
 loop-again c =
-    let l = c .before .before .before .before .loop in
+    let w = c .before .before .before .before .loop in
     let h = c .before .before .before .loop-test .taken in
     let g = c .before .before .before .before .before .before .before .before .args in
-    let k : l .i < length (g .b .now) = omega (arith, l .inv .1) in (
+    let k : w .i < length (g .m .now) = omega (arith, w .inv .1) in (
       search needs,
       search needs,
-      l .inv .2
-          ∙ same-on (g .a .now) (g .b .now) (l .i) h k
-          (⊎-elim (λ w. sym (w .2 .ensures) ∙ w .5 .left ∙ w .4 .ensures) (λ w. ap folded (w .left)) (c .if2 .came)),
+      w .inv .2
+          ∙ same-on (g .l .now) (g .m .now) (w .i) h k
+          (⊎-elim (λ f. sym (f .2 .ensures) ∙ f .5 .left ∙ f .4 .ensures) (λ e. ap folded (e .left)) (c .if2 .came)),
     )
 
 returns-3 : tie.Need-returns-3 Inv-loop μ-loop
 returns-3 c =
-    let l = c .before .loop in
-    let k : length (c .before .before .before .before .before .args .b .now) ≤ l .i = omega (arith, l .inv .1) in
-    sym (l .inv .2 ∙ same-end _ _ _ (c .loop-test .left) k)
+    let w = c .before .loop in
+    let k : length (c .before .before .before .before .before .args .m .now) ≤ w .i = omega (arith, w .inv .1) in
+    sym (w .inv .2 ∙ same-end _ _ _ (c .loop-test .left) k)
 
 pub same-octets-spec : {M : Type 1} → statement M
 same-octets-spec =
