@@ -16,6 +16,7 @@ pub mod make;
 pub mod message;
 pub mod names;
 pub mod options;
+pub mod pairs;
 pub mod planted;
 pub mod program;
 pub mod random;

@@ -166,7 +166,7 @@ fn sent(text: &mut String, to: &Endpoint, octets: &[u8]) {
     hexadecimal(text, octets);
 }
 
-fn hexadecimal(text: &mut String, octets: &[u8]) {
+pub fn hexadecimal(text: &mut String, octets: &[u8]) {
     const DIGITS: &[u8; 16] = b"0123456789abcdef";
     for octet in octets {
         text.push(char::from(DIGITS[usize::from(octet >> 4)]));

@@ -1,7 +1,7 @@
 //! The commands of the second program.
 
 use second::options::Options;
-use second::{compare, links, make, planted, session};
+use second::{compare, links, make, pairs, planted, session};
 use std::io::{Read, Write};
 use std::process::exit;
 
@@ -13,6 +13,8 @@ const USAGE: &str = "usage: second COMMAND
   links [OPTIONS]       several hosts on one link in simulation, by both programs
                         (only --program, --from, --jobs, and --runs N)
   timeline              a picture of one start of a link
+  names [OPTIONS]       random pairs of names and whether they are equal, for tests/names.c
+                        (only --from, --pairs N (100000), and --fault WORD)
   help                  this text
 options: --program PATH (target/bin/run_calls) --from SEED (0) --files N (2000)
          --calls N (300) --jobs N (all cores) --keep DIR (target/second) --no-tally";
@@ -64,6 +66,7 @@ fn main() {
         "faults" => with_options(rest, planted::planted),
         "links" => links::links(rest),
         "timeline" => links::timeline(rest),
+        "names" => pairs::pairs(rest),
         "help" | "--help" | "-h" => {
             println!("{USAGE}");
             0

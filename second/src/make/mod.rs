@@ -10,7 +10,9 @@ mod host;
 mod lookups;
 mod memory;
 mod names;
+pub mod pairs;
 mod pointers;
+mod sheet;
 mod tables;
 
 use crate::calls::Call;

@@ -6,7 +6,8 @@ use super::Maker;
 use crate::calls::Call;
 use crate::random::Random;
 
-fn pointer(target: usize) -> [u8; 2] {
+/// The two octets of a pointer.
+pub fn pointer(target: usize) -> [u8; 2] {
     [0xc0 | (target >> 8) as u8 & 0x3f, target as u8]
 }
 
