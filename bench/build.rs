@@ -1,15 +1,27 @@
-//! Links the archive of the proved library into the program `bench`. Its path is LLMNR_ARCHIVE, or the place where
-//! `rt staticlib llmnr_c` puts it.
+//! Links the archives of proved functions into the programs that measure them. That of `bench` is LLMNR_ARCHIVE, or the
+//! place where `rt staticlib llmnr_c` puts it; that of `names` is NAMES_ARCHIVE, which `names.sh` makes.
 
-use std::path::PathBuf;
+use std::path::{Path, PathBuf};
+
+/// The archive that a variable names.
+fn named(variable: &str) -> Option<PathBuf> {
+    println!("cargo:rerun-if-env-changed={variable}");
+    std::env::var_os(variable).map(PathBuf::from)
+}
+
+fn link(program: &str, archive: &Path) {
+    println!("cargo:rerun-if-changed={}", archive.display());
+    println!("cargo:rustc-link-arg-bin={program}={}", archive.display());
+}
 
 fn main() {
-    println!("cargo:rerun-if-env-changed=LLMNR_ARCHIVE");
     let usual = PathBuf::from(env!("CARGO_MANIFEST_DIR")).join("../target/staticlib/libllmnr_c.a");
-    let archive = std::env::var_os("LLMNR_ARCHIVE").map_or(usual, PathBuf::from);
-    println!("cargo:rerun-if-changed={}", archive.display());
-    println!("cargo:rustc-link-arg-bin=bench={}", archive.display());
+    let archive = named("LLMNR_ARCHIVE").unwrap_or(usual);
+    link("bench", &archive);
     if !archive.exists() {
         println!("cargo:warning=no archive at {}: write it with `rt staticlib llmnr_c`", archive.display());
+    }
+    if let Some(archive) = named("NAMES_ARCHIVE") {
+        link("names", &archive);
     }
 }

@@ -10,7 +10,6 @@ mod proved;
 mod proved_runs;
 mod report;
 mod seen;
-mod stack;
 mod svg;
 
 use std::process::ExitCode;

@@ -1,9 +1,9 @@
 //! The stack that a case's call uses with the plain responder, in each of its forms.
 
 use crate::cases::{Case, Kind};
-use crate::stack::used;
 use bench::plain::state::{Endpoint, ROOM};
 use bench::plain::{by_mut, by_value, c_by_value};
+use bench::stack::used;
 use std::hint::black_box;
 use std::mem::take;
 

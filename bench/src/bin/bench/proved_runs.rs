@@ -5,8 +5,8 @@ use crate::cases::{Case, Kind};
 use crate::proved::{flat_phase, llmnr_lookup_receive, llmnr_receive, llmnr_tick};
 use crate::proved::{Address, Endpoint, Host, Lookup, LookupStep, Name, Step};
 use crate::seen::{Run, State, Told};
-use crate::stack::used;
 use bench::plain::state::{self as plain, Call, ROOM};
+use bench::stack::used;
 use std::hint::black_box;
 use std::time::Instant;
 
