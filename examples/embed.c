@@ -67,7 +67,7 @@ static void tell(const char *who, const char *call, llmnr_outcome o, llmnr_endpo
     printf("\n");
 }
 
-/* The addresses among the answers of a response. */
+/* The addresses of scale3 among the answers of a response. A record begins with its owner's name. */
 static void tell_addresses(const uint8_t *datagram, size_t len, llmnr_outcome found)
 {
     size_t at = found.at;
@@ -75,7 +75,7 @@ static void tell_addresses(const uint8_t *datagram, size_t len, llmnr_outcome fo
         llmnr_record_read r = llmnr_record(datagram, len, at);
         if (!r.good)
             return;
-        if (r.rtype == TYPE_A && r.len == 4) {
+        if (r.rtype == TYPE_A && r.len == 4 && llmnr_same_name(datagram, len, at, scale3, sizeof scale3, 0)) {
             printf("scale3 is at ");
             print_address(datagram + r.start);
             printf(" for %u seconds\n", (unsigned)r.ttl);

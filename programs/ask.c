@@ -98,25 +98,6 @@ static size_t expand(const net_datagram *d, size_t at, uint8_t *name)
     return 0;
 }
 
-static uint8_t fold(uint8_t octet)
-{
-    return octet >= 'A' && octet <= 'Z' ? (uint8_t)(octet + 32) : octet;
-}
-
-/* Whether the record at an offset has the name that was asked for as its owner (M10). */
-static bool is_owner(const asker *me, size_t at)
-{
-    uint8_t owner[LLMNR_LONGEST];
-    size_t len = expand(&me->datagram, at, owner), k;
-
-    if (len != me->name_len)
-        return false;
-    for (k = 0; k < len; k++)
-        if (fold(owner[k]) != fold(me->name[k]))
-            return false;
-    return true;
-}
-
 /* Writes the data of a record that is no address and no name of one: in hexadecimal, as RFC 3597 does. */
 static void print_unknown(const net_datagram *d, const llmnr_record_read *record)
 {
@@ -160,7 +141,8 @@ static void print_answers(asker *me, const question *q, const llmnr_outcome *out
 
         if (!record.good)
             break;
-        if (record.rclass == CLASS_IN && (q->type == TYPE_ANY || record.rtype == q->type) && is_owner(me, at)) {
+        if (record.rclass == CLASS_IN && (q->type == TYPE_ANY || record.rtype == q->type)
+            && llmnr_same_name(me->datagram.octets, me->datagram.len, at, me->name, me->name_len, 0)) {
             print_record(me, &record);
             printed++;
         }

@@ -108,11 +108,26 @@ static void reading(void)
     CHECK(t.good && t.names == 0 && t.at == 0);
 }
 
+/* ---- names: at 12 the name Ab, at 16 a pointer to it, at 18 a pointer to itself */
+
+static void names(void)
+{
+    static const uint8_t message[] = {0, 0, 0, 0, 0, 0, 0, 0, 0, 0, 0, 0, 2, 'A', 'b', 0, 0xC0, 12, 0xC0, 18};
+    static const uint8_t name[] = {2, 'a', 'B', 0}, other[] = {2, 'a', 'c', 0};
+    CHECK(llmnr_same_name(message, sizeof message, 16, name, sizeof name, 0));
+    CHECK(llmnr_same_name(name, sizeof name, 0, message, sizeof message, 16));
+    CHECK(llmnr_same_name(message, sizeof message, 12, message, sizeof message, 16));
+    CHECK(!llmnr_same_name(message, sizeof message, 16, other, sizeof other, 0));
+    CHECK(!llmnr_same_name(message, sizeof message, 18, message, sizeof message, 18));
+    CHECK(!llmnr_same_name(NULL, 0, 0, NULL, 0, 0));
+}
+
 int main(void)
 {
     sizes();
     offsets();
     settings();
     reading();
+    names();
     return told("layout");
 }

@@ -10,7 +10,7 @@
 #include <stdlib.h>
 #include <string.h>
 
-enum { LINE = 1 << 16, SHOWN = 5 };
+enum { LINE = 1 << 17, SHOWN = 5 };
 
 static char line[LINE], words[LINE];
 static unsigned long pairs;

@@ -239,7 +239,8 @@ mod tests {
         let count = right.iter().filter(|line| line.starts_with('1')).count();
         assert!((1400..1800).contains(&count), "{count}");
         let size = |pair: &Pair| pair.message.len().max(pair.other.as_ref().map_or(0, Vec::len));
-        assert!(pairs.iter().map(size).max().is_some_and(|size| (300..750).contains(&size)));
+        // Some names begin where a target needs all of its 14 bits.
+        assert!(pairs.iter().map(size).max().is_some_and(|size| (8192..18_000).contains(&size)));
         for (word, planted) in FAULTS {
             let found = pairs.iter().zip(&right).filter(|(pair, right)| line(pair, planted) != **right).count();
             assert!(found >= 4, "{word}: {found}");

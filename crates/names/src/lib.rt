@@ -22,7 +22,7 @@ impl Name {
     pub const LONGEST: usize = 255;
 
     // From so many octets on, comparing many at once is quicker than comparing one by one.
-    const MANY: usize = 16;
+    const MANY: usize = 8;
 }
 
 pub enum NameRead {

@@ -20,9 +20,11 @@ pub struct Sheet {
 }
 
 impl Sheet {
-    /// Names begin after the header, mostly right after it; with `room` so far on that targets need both octets.
+    /// Names begin after the header, mostly right after it; with `room` so far on that targets need both octets, and
+    /// once in a while all of their 14 bits.
     pub fn new(random: &mut Random, room: bool) -> Sheet {
         let begin = match random.below(40) {
+            _ if random.chance(1, 300) => random.between(300, 16_383),
             0 => random.below(12),
             1..=8 => random.between(12, 40),
             9..=14 if room => random.between(240, 300),
