@@ -2,7 +2,7 @@
 -- equality of the octets where they stand.
 use Prim.Native.Nat.{ℕ, _+_, _-_, _≤_}
 use mathlib.Core.Path.{_≡_, refl, sym, ap, _∙_}
-use mathlib.Core.List.{List, [], _∷_, _++_, map}
+use mathlib.Core.List.{List, map}
 use mathlib.Core.Bool.{Bool, true, false}
 use mathlib.Core.Logic.{_↔_}
 use native.Mathlib.Omega.{arith}
@@ -12,7 +12,7 @@ use Rattle.octets.proofs.Octets.{part-in}
 use Rattle.octets.proofs.Tests.{both-is, cond-same, never, not-is}
 use Rattle.names.specs.Names.{Labels, encode, NameAt}
 use Rattle.names.specs.Folding.{folded, sameName}
-use Rattle.names.specs.Readings.{labels, ReadingAt}
+use Rattle.names.specs.Readings.{labels}
 use Rattle.names.specs.declared.RecordName.{RecordName}
 use Rattle.names.specs.declared.RecordNameRead.{RecordNameRead}
 use Rattle.names.specs.declared.RecordNameRead.the-variants.{Good, Bad}

@@ -1,6 +1,6 @@
 -- Two names walked side by side: what each turn of the one or the other leaves to compare.
 use Prim.Native.Nat.{ℕ, suc, zero, _+_, _-_, _<_, _≤_}
-use mathlib.Core.Path.{_≡_, refl, sym, ap, _∙_, subst}
+use mathlib.Core.Path.{_≡_, refl, sym, ap, _∙_}
 use mathlib.Core.List.{List, [], _∷_, _++_, append-assoc}
 use mathlib.Core.Bool.{Bool, true, false}
 use native.Mathlib.Omega.{arith}
@@ -20,7 +20,7 @@ use Rattle.names.specs.declared.Turn.the-variants.{More, End, Wrong}
 use Rattle.names.specs.declared.RecordName.{RecordName}
 use Rattle.names.specs.declared.RecordNameRead.{RecordNameRead}
 use Rattle.names.specs.declared.RecordNameRead.the-variants.{Good, Bad}
-use Rattle.names.specs.RecordNameWalk.{target, pastLabel, followed, turnAt, walkAt, turns, recordNameFrom, expandedFrom, expandedAt, ifGood}
+use Rattle.names.specs.RecordNameWalk.{target, pastLabel, followed, turnAt, walkAt, recordNameFrom, expandedFrom, expandedAt, ifGood}
 use Rattle.names.specs.Comparison.{isGood, sameRecordName, isEnd, oneMore, endsFrom}
 use Rattle.names.proofs.Lists.{from-here}
 use Rattle.names.proofs.RecordNameWalk.{Met, root, one, jump, wrong, met, turn-root, turn-label, turn-jump, Within, starts-within, left, recordNameHere, expandedHere, onward, no-part, walk-fuel, walk-more, walk-end, walk-wrong, expand-more, expand-end, ended}

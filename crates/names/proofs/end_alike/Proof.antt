@@ -1,5 +1,4 @@
 -- `names::end_alike` meets its contract.
-use mathlib.Core.Path.{_∙_}
 use borrow.Author.Needs.{needs}
 use Rattle.names.proofs.end_alike.Statement.{statement}
 use Rattle.names.proofs.end_alike.Tie as tie

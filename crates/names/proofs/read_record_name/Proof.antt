@@ -1,6 +1,5 @@
 -- `names::read_record_name` meets its contract.
 use mathlib.Core.Path.{_∙_, ap}
-use native.Mathlib.Omega.{arith}
 use borrow.Author.Needs.{needs}
 use Rattle.names.specs.declared.Walk.{Walk}
 use Rattle.names.specs.RecordNameWalk.{recordNameFrom, turns}
