@@ -1,6 +1,8 @@
 #!/usr/bin/env bash
 # The comparison of two names for C, against the second program's own: 100,000 random pairs of names, each asked both ways round. Then each
-# planted fault of the second program must be found. The last line says what passed; the exit status is 0 only if all of it did.
+# planted fault of the second program must be found. Then the code in the archive is looked at: the comparison calls nothing, and its frame, with
+# the 128 octets below it that a function may use, has no room for an array of 255 octets. The last line says what passed; the exit status is 0
+# only if all of it did.
 # usage: tests/names.sh     ARCHIVE=another archive (target/staticlib/libllmnr_c.a, which tests/c.sh builds)
 set -eu -o pipefail
 cd "$(dirname "$0")/.."
@@ -29,4 +31,14 @@ for fault in first-pointer lengths shorter-label bit-5 unreadable targets case p
     fi
     found=$((found + 1))
 done
-echo "names: $pairs pairs the same, $found planted faults found"
+
+objdump -d --no-show-raw-insn "$archive" | awk '/<llmnr_same_name>:$/ { on = 1 } NF == 0 { on = 0 } on' >"$work/code"
+calls=$(grep -c '\<call' "$work/code" || true)
+pushed=$(grep -c '\<push' "$work/code" || true)
+frame=$((8 * pushed))
+for octets in $(sed -n 's/.*\<sub  *\$\(0x[0-9a-f]*\),%rsp.*/\1/p' "$work/code"); do frame=$((frame + octets)); done
+if [ ! -s "$work/code" ] || [ "$calls" -ne 0 ] || [ "$frame" -ge 127 ]; then
+    echo "names: llmnr_same_name makes $calls calls and has a frame of $frame octets"
+    exit 1
+fi
+echo "names: $pairs pairs the same, $found planted faults found; no call, and a frame of $frame octets"
