@@ -16,10 +16,12 @@ use Rattle.names.specs.declared.RecordNameRead.{RecordNameRead}
 use Rattle.names.specs.declared.RecordNameRead.the-variants.{Good, Bad}
 use Rattle.names.specs.RecordNameWalk.{recordNameFrom, turns, recordNameAt, expandedAt}
 
+-- the reader has found a name
 abbrev pub isGood : RecordNameRead → Bool
 isGood (Good r) = true
 isGood Bad = false
 
+-- the name at p of s equals the name at q of t
 unfoldable pub sameRecordName : List ℕ → ℕ → List ℕ → ℕ → Bool
 sameRecordName s p t q =
     isGood (recordNameAt s p) and isGood (recordNameAt t q) and sameName (expandedAt s p) (expandedAt t q)
@@ -32,7 +34,7 @@ pub record SameNames (s : List ℕ) (p : ℕ) (t : List ℕ) (q : ℕ) : Type 0 
   pub other-reading : ReadingAt t q other
   pub same : foldedName (labels (reading .steps)) ≡ foldedName (labels (other-reading .steps))
 
--- How the comparison ends: the one name is at its zero octet,
+-- How a comparison that has found no difference ends: the one name is at its zero octet,
 abbrev pub isEnd : Turn → Bool
 isEnd (More v) = false
 isEnd (End r) = true
