@@ -1,6 +1,6 @@
 -- Laws of the octets of the expanded name, and of the loop that copies them.
 use Prim.Native.Nat.{ℕ, _+_, _-_, _<_, _≤_}
-use mathlib.Core.Path.{_≡_, refl, sym, ap, _∙_, subst}
+use mathlib.Core.Path.{_≡_, refl, sym, ap, _∙_}
 use mathlib.Core.List.{List, [], _∷_, _++_, append-assoc, append-nil}
 use native.Mathlib.Omega.{arith}
 use lib.ListN.{length, length-append}
@@ -11,7 +11,7 @@ use Rattle.names.specs.declared.Turn.the-variants.{More, End, Wrong}
 use Rattle.names.specs.declared.RecordName.{RecordName}
 use Rattle.names.specs.declared.RecordNameRead.the-variants.{Good, Bad}
 use Rattle.names.specs.RecordNameWalk.{turnAt, walkAt, turns, recordNameAt, expandedFrom, expandedAt}
-use Rattle.names.proofs.RecordNameWalk.{Within, within-start, expandedHere, onward, expand-start, expand-more, expand-end, expand-wrong, record-name-fits}
+use Rattle.names.proofs.RecordNameWalk.{Within, starts-within, expandedHere, onward, expand-start, expand-more, expand-end, expand-wrong, record-name-fits}
 
 -- A name that is not readable is expanded to nothing.
 pub expands-none : (s : List ℕ) (at : ℕ) → recordNameAt s at ≡ Bad → expandedAt s at ≡ []
@@ -58,7 +58,7 @@ pub copied-start : (s : List ℕ) (at : ℕ) (out : List ℕ) (w : Walk) → w �
     → length (expandedFrom turns s (walkAt at)) ≤ length out → Copied s at out out w 0
 copied-start s at out w e h =
     record {
-      within = subst (λ (v : Walk). Within v) (sym e) (within-start at);
+      within = starts-within at w e;
       sofar = [];
       used-is = refl;
       out-is = sym (splice-none out 0);

@@ -27,11 +27,11 @@ use Rattle.names.proofs.RecordNameWalk.{Met, root, one, jump, wrong, me
 use Rattle.names.proofs.Folding.{folded-low, unequal-lengths}
 
 -- the names from two walks on
-abbrev pub sameHere : List ℕ → Walk → List ℕ → Walk → Bool
+abbrev sameHere : List ℕ → Walk → List ℕ → Walk → Bool
 sameHere s a t b =
     isGood (recordNameHere s a) and isGood (recordNameHere t b) and sameName (expandedHere s a) (expandedHere t b)
 
-pub same-start : (s : List ℕ) (p : ℕ) (t : List ℕ) (q : ℕ) (a b : Walk) → a ≡ walkAt p → b ≡ walkAt q
+same-start : (s : List ℕ) (p : ℕ) (t : List ℕ) (q : ℕ) (a b : Walk) → a ≡ walkAt p → b ≡ walkAt q
     → sameRecordName s p t q ≡ sameHere s a t b
 unfolding sameRecordName expandedAt
 same-start s p t q a b e f =
@@ -46,11 +46,11 @@ same-start s p t q a b e f =
     go Bad y k l = refl
 
 -- what a turn that goes on has met, as the number of pointers tells
-pub data Went (s : List ℕ) (w v : Walk) : Type 0 where
+data Went (s : List ℕ) (w v : Walk) : Type 0 where
   by-label : w .at < length s → 1 ≤ octetAt s (w .at) → octetAt s (w .at) ≤ longestLabel → v ≡ pastLabel w (octetAt s (w .at)) → Went s w v
   by-pointer : v ≡ followed w (target s (w .at)) → Went s w v
 
-pub went : (s : List ℕ) (w v : Walk) → turnAt s w ≡ More v → Went s w v
+went : (s : List ℕ) (w v : Walk) → turnAt s w ≡ More v → Went s w v
 went s w v e = go (met s w)
   where
     go : Met s w → Went s w v
@@ -69,12 +69,12 @@ record Labelled (xs : List ℕ) : Type 0 where
   short : first ≤ longestLabel
 
 -- what a turn adds: the part from the offset on
-abbrev pub added : List ℕ → Walk → Walk → List ℕ
+abbrev added : List ℕ → Walk → Walk → List ℕ
 added s w v = partOf s (w .at) (w .at + (v .len - w .len))
 
 module _ (s : List ℕ) (w v : Walk) (b : Within w) (e : turnAt s w ≡ More v) where
   -- a pointer adds none
-  pub over-pointer : (v .pointers ≡ w .pointers → ⊥) → expandedHere s w ≡ expandedHere s v
+  over-pointer : (v .pointers ≡ w .pointers → ⊥) → expandedHere s w ≡ expandedHere s v
   over-pointer n = go (went s w v e)
     where
       go : Went s w v → expandedHere s w ≡ expandedHere s v
@@ -182,14 +182,14 @@ zero-alone x (c ∷ xs) e n = absurd (omega (arith, ap length e, length-append x
 
 module _ (s : List ℕ) (a : Walk) (t : List ℕ) (b : Walk) (i : Within a) (j : Within b) where
   -- A pointer of the one or of the other changes nothing.
-  pub same-first : (v : Walk) → turnAt s a ≡ More v → (v .pointers ≡ a .pointers → ⊥) → sameHere s a t b ≡ sameHere s v t b
+  same-first : (v : Walk) → turnAt s a ≡ More v → (v .pointers ≡ a .pointers → ⊥) → sameHere s a t b ≡ sameHere s v t b
   same-first v e n = rw (walk-more s a i v e, over-pointer s a v i e n)
 
-  pub same-second : (u : Walk) → turnAt t b ≡ More u → (u .pointers ≡ b .pointers → ⊥) → sameHere s a t b ≡ sameHere s a t u
+  same-second : (u : Walk) → turnAt t b ≡ More u → (u .pointers ≡ b .pointers → ⊥) → sameHere s a t b ≡ sameHere s a t u
   same-second u e n = rw (walk-more t b j u e, over-pointer t b u j e n)
 
   -- A label of both: they are the same, and what is behind them is.
-  pub same-labels-on : (v u : Walk) → turnAt s a ≡ More v → turnAt t b ≡ More u → v .pointers ≡ a .pointers → u .pointers ≡ b .pointers
+  same-labels-on : (v u : Walk) → turnAt s a ≡ More v → turnAt t b ≡ More u → v .pointers ≡ a .pointers → u .pointers ≡ b .pointers
       → sameHere s a t b ≡ (sameName (added s a v) (added t b u) and sameHere s v t u)
   same-labels-on v u e f n m =
       rw (walk-more s a i v e, walk-more t b j u f, expand-more s a i v e, expand-more t b j u f)
@@ -207,7 +207,7 @@ module _ (s : List ℕ) (a : Walk) (t : List ℕ) (b : Walk) (i : Within a) (j :
           (labels-join (l .first) (m .first) (l .rest) (m .rest) (expandedHere s v) (expandedHere t u) (l .length-is) (m .length-is) (l .short) (m .short))
 
   -- A label of the one where the other ends, or is wrong.
-  pub same-label-root : (v : Walk) (r : RecordName) → turnAt s a ≡ More v → v .pointers ≡ a .pointers → turnAt t b ≡ End r
+  same-label-root : (v : Walk) (r : RecordName) → turnAt s a ≡ More v → v .pointers ≡ a .pointers → turnAt t b ≡ End r
       → sameHere s a t b ≡ false
   same-label-root v r e n f =
       rw (walk-more s a i v e, walk-end t b j r f, expand-more s a i v e, expand-end t b j r f)
@@ -218,14 +218,14 @@ module _ (s : List ℕ) (a : Walk) (t : List ℕ) (b : Walk) (i : Within a) (j :
       go Bad p = refl
       go (Good r) p = let l = p r refl in rw (l .is) (label-not-root _ _ (l .some) (l .short))
 
-  pub same-second-wrong : turnAt t b ≡ Wrong → sameHere s a t b ≡ false
+  same-second-wrong : turnAt t b ≡ Wrong → sameHere s a t b ≡ false
   same-second-wrong f = rw (walk-wrong t b j f) (cond-same (isGood (recordNameHere s a)) false)
 
   -- The one ends, or is wrong.
-  pub same-first-wrong : turnAt s a ≡ Wrong → sameHere s a t b ≡ false
+  same-first-wrong : turnAt s a ≡ Wrong → sameHere s a t b ≡ false
   same-first-wrong e = rw (walk-wrong s a i e)
 
-  pub same-root : (r : RecordName) → turnAt s a ≡ End r → sameHere s a t b ≡ endsFrom t b
+  same-root : (r : RecordName) → turnAt s a ≡ End r → sameHere s a t b ≡ endsFrom t b
   same-root r e =
       rw (walk-end s a i r e, expand-end s a i r e, walk-fuel t b j) (go (recordNameHere t b) refl)
     where
