@@ -144,7 +144,7 @@ stands s p len o f =
     let n : Labels = f .name in
     let h : p ≤ p + len = omega arith in
     let z : length (encode n) ≡ p + len - p = omega (arith, f .len-is) in
-    expands s p (record { next = p + len; len = len; pointers = 0 }) o (plain-reading s p len f)
+    expands s p _ o (plain-reading s p len f)
     ∙ ap encode (reading-labels s p len f)
     ∙ sym (f .octets)
     ∙ ap (λ (k : ℕ). take k (drop p s)) z

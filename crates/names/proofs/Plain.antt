@@ -8,7 +8,7 @@ use lib.Seq.{take-at}
 use Rattle.octets.specs.Octets.{Octets}
 use Rattle.names.specs.Bounds.{longestName}
 use Rattle.names.specs.Names.{Labels, AreLabels, encode, NameAt}
-use Rattle.names.specs.Readings.{label, Reads, labels, pointers, after, ReadingAt}
+use Rattle.names.specs.Readings.{label, Reads, labels, labelSteps, pointers, after, ReadingAt}
 use Rattle.names.specs.declared.RecordNameRead.the-variants.{Good}
 use Rattle.names.specs.RecordNameWalk.{recordNameAt}
 use Rattle.names.proofs.Lists.{stand-drop, behind, past}
@@ -29,6 +29,10 @@ plain-labels : (n : Labels) → labels (map label n) ≡ n
 plain-labels [] = refl
 plain-labels (l ∷ n) = ap (λ (t : Labels). l ∷ t) (plain-labels n)
 
+plain-count : (n : Labels) → labelSteps (map label n) ≡ length n
+plain-count [] = refl
+plain-count (l ∷ n) = omega (arith, plain-count n)
+
 plain-pointers : (n : Labels) → pointers (map label n) ≡ 0
 plain-pointers [] = refl
 plain-pointers (l ∷ n) = plain-pointers n
@@ -39,7 +43,7 @@ plain-after (l ∷ n) p = plain-after n (p + 1 + length l) ∙ omega (arith, len
 
 module _ (s : List ℕ) (at len : ℕ) (f : NameAt s at len) where
   -- A name without pointers is a reading with none,
-  pub plain-reading : ReadingAt s at (record { next = at + len; len = len; pointers = 0 })
+  pub plain-reading : ReadingAt s at (record { next = at + len; len = len; pointers = 0; labels = length (f .name) })
   plain-reading =
       let n : Labels = f .name in
       let h : len ≤ longestName = omega (arith, f .len-is, f .is-name .short) in
@@ -49,6 +53,7 @@ module _ (s : List ℕ) (at len : ℕ) (f : NameAt s at len) where
         next-is = omega (arith, plain-after n at, f .len-is);
         len-is = f .len-is ∙ ap (λ (m : Labels). length (encode m)) (sym (plain-labels n));
         pointers-are = sym (plain-pointers n);
+        labels-are = sym (plain-count n);
         short = h;
         few = omega arith;
       }
@@ -59,6 +64,6 @@ module _ (s : List ℕ) (at len : ℕ) (f : NameAt s at len) where
   reading-labels = plain-labels (f .name)
 
 -- So the reader of a record's name finds a name without pointers.
-pub plain-is-packed : (s : List ℕ) (at len : ℕ) → Octets s → NameAt s at len
-    → recordNameAt s at ≡ Good (record { next = at + len; len = len; pointers = 0 })
-plain-is-packed s at len o f = reads-a-reading s at (record { next = at + len; len = len; pointers = 0 }) o .1 (plain-reading s at len f)
+pub plain-is-packed : (s : List ℕ) (at len : ℕ) → Octets s → (f : NameAt s at len)
+    → recordNameAt s at ≡ Good (record { next = at + len; len = len; pointers = 0; labels = length (f .name) })
+plain-is-packed s at len o f = reads-a-reading s at _ o .1 (plain-reading s at len f)

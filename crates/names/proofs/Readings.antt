@@ -12,15 +12,15 @@ use Rattle.octets.proofs.Octets.{octets-drop, octets-take, octet-at, part-in}
 use Rattle.octets.proofs.Readers.{finds-none}
 use Rattle.names.specs.Bounds.{longestLabel, longestName, mostPointers, leastTarget, pointerMark}
 use Rattle.names.specs.Names.{AreLabels, encode, IsName, Stand}
-use Rattle.names.specs.Readings.{Step, label, pointer, IsPointer, Reads, labels, pointers, after, ReadingAt}
+use Rattle.names.specs.Readings.{Step, label, pointer, IsPointer, Reads, labels, labelSteps, pointers, after, ReadingAt}
 use Rattle.names.specs.declared.Walk.{Walk}
 use Rattle.names.specs.declared.Turn.the-variants.{More}
 use Rattle.names.specs.declared.RecordName.{RecordName}
 use Rattle.names.specs.declared.RecordNameRead.{RecordNameRead}
 use Rattle.names.specs.declared.RecordNameRead.the-variants.{Good, Bad}
-use Rattle.names.specs.RecordNameWalk.{target, goesOn, atRoot, pastLabel, followed, turnAt, recordNameFrom, walkAt, turns, recordNameAt, expandedFrom, expandedAt}
+use Rattle.names.specs.RecordNameWalk.{target, goesOn, atRoot, pastLabel, followed, turnAt, moreLabels, labelsTaken, recordNameFrom, walkAt, turns, recordNameAt, expandedFrom, expandedAt}
 use Rattle.names.proofs.Lists.{stand-drop, from-here, there, here}
-use Rattle.names.proofs.RecordNameWalk.{Met, root, one, jump, wrong, met, turn-root, turn-label, turn-jump, Within, within-start, no-part, record-name-fits}
+use Rattle.names.proofs.RecordNameWalk.{Met, root, one, jump, wrong, met, turn-root, turn-label, turn-jump, Within, within-start, takes-one, takes-none, more-none, Without, after-turn, no-part, record-name-fits}
 use Rattle.names.proofs.Expansion.{expands-good}
 use Rattle.names.proofs.Names.{encode-some, encode-labels}
 
@@ -31,6 +31,7 @@ record From (s : List ℕ) (w : Walk) (r : RecordName) : Type 0 where
   next-is : r .next ≡ goesOn w (after (w .at) steps)
   len-is : r .len ≡ w .len + length (encode (labels steps))
   pointers-are : r .pointers ≡ w .pointers + pointers steps
+  labels-are : r .labels ≡ labelSteps steps
   short : r .len ≤ longestName
   few : r .pointers ≤ mostPointers
 
@@ -42,6 +43,7 @@ from-root s w b h g =
       next-is = refl;
       len-is = refl;
       pointers-are = omega arith;
+      labels-are = refl;
       short = omega (arith, b .short);
       few = b .few;
     }
@@ -52,10 +54,10 @@ reads-inside s p run [] a = there s p 0 _ (stand-drop s p (0 ∷ []) a)
 reads-inside s p run (label l ∷ r) a = there s p (length l) _ (stand-drop s p (length l ∷ l) (a .1))
 reads-inside s p run (pointer to ∷ r) a = let h : p + 1 < length s = a .0 .inside in omega arith
 
-module _ (s : List ℕ) (w : Walk) (r : RecordName) (o : Octets s) where
+module _ (s : List ℕ) (w : Walk) (r : RecordName) {x : RecordNameRead} (o : Octets s) where
   from-label : w .at < length s → 1 ≤ octetAt s (w .at) → octetAt s (w .at) ≤ longestLabel
-      → From s (pastLabel w (octetAt s (w .at))) r → From s w r
-  from-label h g i f =
+      → (q : Without (labelsTaken w (pastLabel w (octetAt s (w .at)))) x r) → From s (pastLabel w (octetAt s (w .at))) (q .fewer) → From s w r
+  from-label h g i q f =
       let p : ℕ = w .at in
       let c : ℕ = octetAt s p in
       let d : List ℕ = drop (p + 1) s in
@@ -74,59 +76,46 @@ module _ (s : List ℕ) (w : Walk) (r : RecordName) (o : Octets s) where
           st,
           subst (λ (k : ℕ). Reads s (p + 1 + k) (w .run) (f .steps)) (sym is) (f .reads),
         );
-        next-is = f .next-is ∙ ap (λ (k : ℕ). goesOn w (after (p + 1 + k) (f .steps))) (sym is);
-        len-is = omega (arith, f .len-is, length-append l (encode (labels (f .steps))));
-        pointers-are = f .pointers-are;
-        short = f .short;
-        few = f .few;
+        next-is = q .next-is ∙ f .next-is ∙ ap (λ (k : ℕ). goesOn w (after (p + 1 + k) (f .steps))) (sym is);
+        len-is = omega (arith, q .len-is, f .len-is, length-append l (encode (labels (f .steps))));
+        pointers-are = q .pointers-are ∙ f .pointers-are;
+        labels-are = omega (arith, q .labels-are, takes-one w c, f .labels-are);
+        short = omega (arith, q .len-is, f .short);
+        few = omega (arith, q .pointers-are, f .few);
       }
 
   from-jump : w .at + 1 < length s → pointerMark ≤ octetAt s (w .at) → leastTarget ≤ target s (w .at) → target s (w .at) < w .run
-      → From s (followed w (target s (w .at))) r → From s w r
-  from-jump h g i j f =
+      → (q : Without (labelsTaken w (followed w (target s (w .at)))) x r) → From s (followed w (target s (w .at))) (q .fewer) → From s w r
+  from-jump h g i j q f =
       let z : w .pointers + 1 ≡ 0 → ⊥ = omega arith in
       record {
         steps = pointer (target s (w .at)) ∷ f .steps;
         reads = (record { inside = h; word = omega arith; after-header = i; backwards = j }, f .reads);
-        next-is = f .next-is ∙ rw (ne-eqb _ _ z);
-        len-is = f .len-is;
-        pointers-are = omega (arith, f .pointers-are);
-        short = f .short;
-        few = f .few;
+        next-is = q .next-is ∙ f .next-is ∙ rw (ne-eqb _ _ z);
+        len-is = q .len-is ∙ f .len-is;
+        pointers-are = omega (arith, q .pointers-are, f .pointers-are);
+        labels-are = omega (arith, q .labels-are, takes-none w (target s (w .at)), f .labels-are);
+        short = omega (arith, q .len-is, f .short);
+        few = omega (arith, q .pointers-are, f .few);
       }
 
 sound : (k : ℕ) (s : List ℕ) (w : Walk) (r : RecordName) → Octets s → Within w → recordNameFrom k s w ≡ Good r → From s w r
 unfolding recordNameFrom
 sound zero s w r o b e = absurd (let z : _≡_ {A = ℕ} 0 1 = cc in omega arith)
-sound (suc k) s w r o b e = go (met s w) (λ v. sound k s v r o)
+sound (suc k) s w r o b e = go (met s w) (λ v q. sound k s v q o)
   where
-    go : Met s w → ((v : Walk) → Within v → recordNameFrom k s v ≡ Good r → From s v r) → From s w r
+    go : Met s w → ((v : Walk) (q : RecordName) → Within v → recordNameFrom k s v ≡ Good q → From s v q) → From s w r
     go (wrong q) i = absurd (let z : _≡_ {A = ℕ} 0 1 = cc in omega arith)
     go (root h g) i =
         let f : Good (atRoot w) ≡ Good r = rw (turn-root s w h g) at e in
         let q : atRoot w ≡ r = cc in
         subst (λ (x : RecordName). From s w x) q (from-root s w b h g)
     go (one h g u v) i =
-        from-label
-        s
-        w
-        r
-        o
-        h
-        g
-        u
-        (i (pastLabel w (octetAt s (w .at))) (record { short = v; few = b .few }) (rw (turn-label s w h g u v) at e))
+        let q = after-turn k s w _ r e (turn-label s w h g u v) in
+        from-label s w r o h g u q (i (pastLabel w (octetAt s (w .at))) (q .fewer) (record { short = v; few = b .few }) (q .is))
     go (jump h g u v m) i =
-        from-jump
-        s
-        w
-        r
-        o
-        h
-        g
-        u
-        v
-        (i (followed w (target s (w .at))) (record { short = b .short; few = omega arith }) (rw (turn-jump s w h g u v m) at e))
+        let q = after-turn k s w _ r e (turn-jump s w h g u v m) in
+        from-jump s w r o h g u v q (i (followed w (target s (w .at))) (q .fewer) (record { short = b .short; few = omega arith }) (q .is))
 
 -- the first octet of each kind of step
 first-root : (s : List ℕ) (p : ℕ) → Stand s p (0 ∷ []) → octetAt s p ≡ 0
@@ -146,6 +135,7 @@ readAs w r =
       next = goesOn w (after (w .at) r);
       len = w .len + length (encode (labels r));
       pointers = w .pointers + pointers r;
+      labels = labelSteps r;
     })
 
 -- what the reader needs to read the steps from w on to their end
@@ -214,7 +204,7 @@ complete zero s w r o a = absurd (omega (arith, a .fuel))
 complete (suc k) s w [] o a =
     let t = turn-root s w (reads-inside s (w .at) (w .run) [] (a .reads)) (first-root s (w .at) (a .reads)) in
     let z : w .pointers ≡ w .pointers + 0 = omega arith in
-    rw t (ap (λ (c : ℕ). Good (record { next = goesOn w (w .at + 1); len = w .len + 1; pointers = c })) z)
+    rw t (ap (λ (c : ℕ). Good (record { next = goesOn w (w .at + 1); len = w .len + 1; pointers = c; labels = 0 })) z)
 complete (suc k) s w (label l ∷ r) o a =
     let f = label-first k s w l r a in
     let p : ℕ = w .at in
@@ -223,18 +213,18 @@ complete (suc k) s w (label l ∷ r) o a =
     let e : c ≡ length l = f .is in
     let z : w .len + 1 + c + length (encode (labels r)) ≡ w .len + length (encode (l ∷ labels r)) =
     omega (arith, length-append l (encode (labels r))) in
-    rw (f .turn)
-    (complete k s (pastLabel w c) r o (f .rest)
-    ∙ ap (λ (m : ℕ). Good (record { next = goesOn w (after (p + 1 + m) r); len = w .len + 1 + c + length (encode (labels r)); pointers = n })) e
-    ∙ ap (λ (m : ℕ). Good (record { next = goesOn w (after (p + 1 + length l) r); len = m; pointers = n })) z)
+    rw (f .turn, takes-one w c)
+    (ap (moreLabels 1) (complete k s (pastLabel w c) r o (f .rest))
+    ∙ ap (λ (m : ℕ). Good (record { next = goesOn w (after (p + 1 + m) r); len = w .len + 1 + c + length (encode (labels r)); pointers = n; labels = 1 + labelSteps r })) e
+    ∙ ap (λ (m : ℕ). Good (record { next = goesOn w (after (p + 1 + length l) r); len = m; pointers = n; labels = 1 + labelSteps r })) z)
 complete (suc k) s w (pointer to ∷ r) o a =
     let f = pointer-first k s w to r o a in
     let nz : w .pointers + 1 ≡ 0 → ⊥ = omega arith in
     let z : w .pointers + 1 + pointers r ≡ w .pointers + (1 + pointers r) = omega arith in
-    rw (f .turn)
+    rw (f .turn, takes-none w (target s (w .at)), more-none (recordNameFrom k s (followed w (target s (w .at)))))
     (complete k s (followed w (target s (w .at))) r o (f .rest)
     ∙ rw (ne-eqb _ _ nz)
-    (ap (λ (m : ℕ). Good (record { next = goesOn w (w .at + 2); len = w .len + length (encode (labels r)); pointers = m })) z))
+    (ap (λ (m : ℕ). Good (record { next = goesOn w (w .at + 2); len = w .len + length (encode (labels r)); pointers = m; labels = labelSteps r })) z))
 
 -- the labels of a reading are labels, and its steps are its labels and pointers
 reads-labels : (s : List ℕ) (p run : ℕ) (r : List Step) → Reads s p run r → AreLabels (labels r)
@@ -271,6 +261,7 @@ reads-a-reading s at r o = (to-reading, from-reading)
           next-is = f .next-is;
           len-is = omega (arith, f .len-is);
           pointers-are = omega (arith, f .pointers-are);
+          labels-are = f .labels-are;
           short = f .short;
           few = f .few;
         }
@@ -281,9 +272,10 @@ reads-a-reading s at r o = (to-reading, from-reading)
         let x : 0 + length (encode (labels m)) ≡ r .len = omega (arith, f .len-is) in
         let y : 0 + pointers m ≡ r .pointers = omega (arith, f .pointers-are) in
         complete turns s (walkAt at) m o (readable s at r f)
-        ∙ ap (λ (n : ℕ). Good (record { next = n; len = 0 + length (encode (labels m)); pointers = 0 + pointers m })) (sym (f .next-is))
-        ∙ ap (λ (n : ℕ). Good (record { next = r .next; len = n; pointers = 0 + pointers m })) x
-        ∙ ap (λ (n : ℕ). Good (record { next = r .next; len = r .len; pointers = n })) y
+        ∙ ap (λ (n : ℕ). Good (record { next = n; len = 0 + length (encode (labels m)); pointers = 0 + pointers m; labels = labelSteps m })) (sym (f .next-is))
+        ∙ ap (λ (n : ℕ). Good (record { next = r .next; len = n; pointers = 0 + pointers m; labels = labelSteps m })) x
+        ∙ ap (λ (n : ℕ). Good (record { next = r .next; len = r .len; pointers = n; labels = labelSteps m })) y
+        ∙ ap (λ (n : ℕ). Good (record { next = r .next; len = r .len; pointers = r .pointers; labels = n })) (sym (f .labels-are))
 
 -- The reader gives up exactly if there is no reading: its turns never run out.
 pub reads-no-reading : (s : List ℕ) (at : ℕ) → Octets s → (recordNameAt s at ≡ Bad) ↔ ((r : RecordName) → ReadingAt s at r → ⊥)

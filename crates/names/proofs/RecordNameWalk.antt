@@ -1,5 +1,5 @@
 -- Laws of the walk over a record's name: a turn for each thing that it can meet, and its fuel.
-use Prim.Native.Nat.{ℕ, suc, zero, _+_, _-_, _<_, _≤_}
+use Prim.Native.Nat.{ℕ, suc, zero, _+_, _-_, _/_, _<_, _≤_}
 use mathlib.Core.Path.{_≡_, refl, sym, ap, _∙_, subst}
 use mathlib.Core.List.{List, [], _∷_, _++_}
 use native.Mathlib.Omega.{arith}
@@ -16,7 +16,7 @@ use Rattle.names.specs.declared.Turn.the-variants.{More, End, Wrong}
 use Rattle.names.specs.declared.RecordName.{RecordName}
 use Rattle.names.specs.declared.RecordNameRead.{RecordNameRead}
 use Rattle.names.specs.declared.RecordNameRead.the-variants.{Good, Bad}
-use Rattle.names.specs.RecordNameWalk.{target, goesOn, atRoot, pastLabel, followed, turnAt, onTurn, recordNameFrom, walkAt, turns, recordNameAt, onExpand, expandedFrom}
+use Rattle.names.specs.RecordNameWalk.{target, goesOn, atRoot, pastLabel, followed, turnAt, moreLabels, labelsTaken, onTurn, recordNameFrom, walkAt, turns, recordNameAt, onExpand, expandedFrom}
 
 -- what a turn meets
 pub data Met (s : List ℕ) (w : Walk) : Type 0 where
@@ -68,13 +68,13 @@ module _ (s : List ℕ) (w : Walk) where
       let y : longestLabel < octetAt s (w .at) = omega arith in
       rw (lt-leb _ _ h0, ne-eqb _ _ z, lt-leb _ _ y, le-ltb _ _ g, lt-leb _ _ h, le-ltb _ _ i, lt-leb _ _ j, lt-leb _ _ k)
 
--- A walk within the bounds. What is left of it falls with each turn: octets of the name, and pointers.
+-- A walk within the bounds. The turns that are left of it fall with each: labels of two octets or more, pointers, and the last one.
 pub record Within (w : Walk) : Type 0 where
   pub short : w .len < longestName
   pub few : w .pointers ≤ mostPointers
 
 abbrev pub left : Walk → ℕ
-left w = (longestName - w .len) + (mostPointers - w .pointers)
+left w = (longestName - w .len) / 2 + (mostPointers - w .pointers) + 1
 
 pub within-start : (at : ℕ) → Within (walkAt at)
 within-start at = record { short = omega arith; few = omega arith }
@@ -82,10 +82,20 @@ within-start at = record { short = omega arith; few = omega arith }
 pub starts-within : (at : ℕ) (w : Walk) → w ≡ walkAt at → Within w
 starts-within at w e = subst (λ (v : Walk). Within v) (sym e) (within-start at)
 
+-- A label turn takes one label, a pointer none.
+pub takes-one : (w : Walk) (c : ℕ) → labelsTaken w (pastLabel w c) ≡ 1
+takes-one w c = rw (eq-eqb (w .pointers) (w .pointers) refl)
+
+pub takes-none : (w : Walk) (to : ℕ) → labelsTaken w (followed w to) ≡ 0
+takes-none w to =
+    let z : w .pointers + 1 ≡ w .pointers → ⊥ = omega arith in
+    rw (ne-eqb _ _ z)
+
 -- from w a turn goes on to v
 pub record Onward (s : List ℕ) (w v : Walk) : Type 0 where
   pub inside : w .at < length s
   pub longer : w .len ≤ v .len
+  pub counted : w .len + (labelsTaken w v + labelsTaken w v) ≤ v .len
   pub within : Within v
   pub nearer : left v < left w
 
@@ -100,13 +110,76 @@ onward s w v b e = go (met s w)
         subst
         (λ (u : Walk). Onward s w u)
         f
-        (record { inside = h; longer = omega arith; within = record { short = j; few = b .few }; nearer = omega (arith, b .short) })
+        (record {
+          inside = h;
+          longer = omega arith;
+          counted = omega (arith, takes-one w (octetAt s (w .at)));
+          within = record { short = j; few = b .few };
+          nearer = omega (arith, b .short);
+        })
     go (jump h g i j m) =
         let f : followed w (target s (w .at)) ≡ v = cc (turn-jump s w h g i j m) in
         subst
         (λ (u : Walk). Onward s w u)
         f
-        (record { inside = omega arith; longer = omega arith; within = record { short = b .short; few = omega arith }; nearer = omega arith })
+        (record {
+          inside = omega arith;
+          longer = omega arith;
+          counted = omega (arith, takes-none w (target s (w .at)));
+          within = record { short = b .short; few = omega arith };
+          nearer = omega arith;
+        })
+
+-- and the end none
+pub root-none : (s : List ℕ) (w : Walk) (r : RecordName) → turnAt s w ≡ End r → r .labels ≡ 0
+root-none s w r e = go (met s w)
+  where
+    go : Met s w → r .labels ≡ 0
+    go (wrong q) = absurd (let z : _≡_ {A = ℕ} 0 1 = cc in omega arith)
+    go (root h g) = let f : atRoot w ≡ r = cc (turn-root s w h g) in sym (ap (λ (x : RecordName). x .labels) f)
+    go (one h g i j) = absurd (let z : _≡_ {A = ℕ} 0 1 = cc (turn-label s w h g i j) in omega arith)
+    go (jump h g i j m) = absurd (let z : _≡_ {A = ℕ} 0 1 = cc (turn-jump s w h g i j m) in omega arith)
+
+-- labels more, and more again
+pub more-none : (x : RecordNameRead) → moreLabels 0 x ≡ x
+more-none (Good r) =
+    let z : 0 + r .labels ≡ r .labels = omega arith in
+    ap (λ (k : ℕ). Good (record { next = r .next; len = r .len; pointers = r .pointers; labels = k })) z
+more-none Bad = refl
+
+more-again : (l m : ℕ) (x : RecordNameRead) → moreLabels l (moreLabels m x) ≡ moreLabels (l + m) x
+more-again l m (Good r) =
+    let z : l + (m + r .labels) ≡ l + m + r .labels = omega arith in
+    ap (λ (k : ℕ). Good (record { next = r .next; len = r .len; pointers = r .pointers; labels = k })) z
+more-again l m Bad = refl
+
+-- a name that is read with m labels more is read without them
+pub record Without (m : ℕ) (x : RecordNameRead) (r : RecordName) : Type 0 where
+  pub fewer : RecordName
+  pub is : x ≡ Good fewer
+  pub next-is : r .next ≡ fewer .next
+  pub len-is : r .len ≡ fewer .len
+  pub pointers-are : r .pointers ≡ fewer .pointers
+  pub labels-are : r .labels ≡ m + fewer .labels
+
+without : (m : ℕ) (x : RecordNameRead) (r : RecordName) → moreLabels m x ≡ Good r → Without m x r
+without m (Good q) r e =
+    let f : _≡_ {A = RecordName} (record { next = q .next; len = q .len; pointers = q .pointers; labels = m + q .labels }) r = cc in
+    record {
+      fewer = q;
+      is = refl;
+      next-is = sym (ap (λ (n : RecordName). n .next) f);
+      len-is = sym (ap (λ (n : RecordName). n .len) f);
+      pointers-are = sym (ap (λ (n : RecordName). n .pointers) f);
+      labels-are = sym (ap (λ (n : RecordName). n .labels) f);
+    }
+without m Bad r e = absurd (let z : _≡_ {A = ℕ} 0 1 = cc in omega arith)
+
+-- so it is with a name that is read, after a turn that goes on
+pub after-turn : (k : ℕ) (s : List ℕ) (w v : Walk) (r : RecordName) → recordNameFrom (suc k) s w ≡ Good r → turnAt s w ≡ More v
+    → Without (labelsTaken w v) (recordNameFrom k s v) r
+unfolding recordNameFrom
+after-turn k s w v r e t = without (labelsTaken w v) (recordNameFrom k s v) r (rw t at e)
 
 -- What a walk gives: `on` makes it of a turn and of what the walk gives where the turn goes on.
 module _ {A : Type 0} (from : ℕ → List ℕ → Walk → A) (on : List ℕ → Walk → Turn → (Walk → A) → A)
@@ -146,38 +219,49 @@ recordNameHere s w = recordNameFrom (left w) s w
 abbrev pub expandedHere : List ℕ → Walk → List ℕ
 expandedHere s w = expandedFrom (left w) s w
 
--- where they start
-pub expand-start : (s : List ℕ) (at : ℕ) (w : Walk) → w ≡ walkAt at → expandedFrom turns s (walkAt at) ≡ expandedHere s w
-expand-start s at w e = subst (λ (v : Walk). expandedFrom turns s (walkAt at) ≡ expandedHere s v) (sym e) refl
-
 -- their turns
-same-read : (t : Turn) (f g : Walk → RecordNameRead) → ((v : Walk) → t ≡ More v → f v ≡ g v) → onTurn t f ≡ onTurn t g
-same-read (More v) f g h = h v refl
-same-read (End r) f g h = refl
-same-read Wrong f g h = refl
+same-read : (w : Walk) (t : Turn) (f g : Walk → RecordNameRead) → ((v : Walk) → t ≡ More v → f v ≡ g v) → onTurn w t f ≡ onTurn w t g
+same-read w (More v) f g h = ap (moreLabels (labelsTaken w v)) (h v refl)
+same-read w (End r) f g h = refl
+same-read w Wrong f g h = refl
 
-walk-turn : (s : List ℕ) (w : Walk) → Within w → recordNameHere s w ≡ onTurn (turnAt s w) (λ v. recordNameHere s v)
+walk-turn : (s : List ℕ) (w : Walk) → Within w → recordNameHere s w ≡ onTurn w (turnAt s w) (λ v. recordNameHere s v)
 unfolding recordNameFrom
-walk-turn = turned recordNameFrom (λ s w t f. onTurn t f) (λ k s w. refl) (λ s w. same-read)
+walk-turn = turned recordNameFrom (λ s. onTurn) (λ k s w. refl) (λ s. same-read)
 
--- the walk with fuel for a whole name
-pub walk-fuel : (s : List ℕ) (w : Walk) → Within w → recordNameFrom turns s w ≡ recordNameHere s w
+-- the walk with fuel for what is left, and with any more
+pub walk-fuel : (k : ℕ) (s : List ℕ) (w : Walk) → Within w → left w ≤ k → recordNameFrom k s w ≡ recordNameHere s w
 unfolding recordNameFrom
-walk-fuel s w b =
-    fuel recordNameFrom (λ s w t f. onTurn t f) (λ k s w. refl) (λ s w. same-read) turns (left w) s w b (omega arith) (omega arith)
+walk-fuel k s w b h = fuel recordNameFrom (λ s. onTurn) (λ k s w. refl) (λ s. same-read) k (left w) s w b h (omega arith)
+
+same-expanded : (s : List ℕ) (w : Walk) (t : Turn) (f g : Walk → List ℕ) → ((v : Walk) → t ≡ More v → f v ≡ g v)
+    → onExpand s w t f ≡ onExpand s w t g
+same-expanded s w (More v) f g h = ap (λ (l : List ℕ). partOf s (w .at) (w .at + (v .len - w .len)) ++ l) (h v refl)
+same-expanded s w (End r) f g h = refl
+same-expanded s w Wrong f g h = refl
 
 expand-turn : (s : List ℕ) (w : Walk) → Within w → expandedHere s w ≡ onExpand s w (turnAt s w) (λ v. expandedHere s v)
 unfolding expandedFrom
-expand-turn = turned expandedFrom onExpand (λ k s w. refl) same
-  where
-    same : (s : List ℕ) (w : Walk) (t : Turn) (f g : Walk → List ℕ) → ((v : Walk) → t ≡ More v → f v ≡ g v) → onExpand s w t f ≡ onExpand s w t g
-    same s w (More v) f g h = ap (λ (l : List ℕ). partOf s (w .at) (w .at + (v .len - w .len)) ++ l) (h v refl)
-    same s w (End r) f g h = refl
-    same s w Wrong f g h = refl
+expand-turn = turned expandedFrom onExpand (λ k s w. refl) same-expanded
+
+pub expand-start : (s : List ℕ) (at : ℕ) (w : Walk) → w ≡ walkAt at → expandedFrom turns s (walkAt at) ≡ expandedHere s w
+unfolding expandedFrom
+expand-start s at w e =
+    fuel expandedFrom onExpand (λ k s w. refl) same-expanded turns (left (walkAt at)) s (walkAt at) (within-start at) (omega arith) (omega arith)
+    ∙ ap (expandedHere s) (sym e)
 
 module _ (s : List ℕ) (w : Walk) (b : Within w) where
-  pub walk-more : (v : Walk) → turnAt s w ≡ More v → recordNameHere s w ≡ recordNameHere s v
+  pub walk-more : (v : Walk) → turnAt s w ≡ More v → recordNameHere s w ≡ moreLabels (labelsTaken w v) (recordNameHere s v)
   walk-more v e = walk-turn s w b ∙ rw e
+
+  -- what is read, with l labels before w, is read with those before v
+  pub walk-counts : (x : RecordNameRead) (l m : ℕ) (v : Walk) → x ≡ moreLabels l (recordNameHere s w) → turnAt s w ≡ More v
+      → m ≡ l + labelsTaken w v → x ≡ moreLabels m (recordNameHere s v)
+  walk-counts x l m v i e f =
+      i
+      ∙ ap (moreLabels l) (walk-more v e)
+      ∙ more-again l (labelsTaken w v) (recordNameHere s v)
+      ∙ ap (λ (k : ℕ). moreLabels k (recordNameHere s v)) (sym f)
 
   pub walk-end : (r : RecordName) → turnAt s w ≡ End r → recordNameHere s w ≡ Good r
   walk-end r e = walk-turn s w b ∙ rw e
@@ -204,7 +288,7 @@ no-part s w h =
     part-in s (w .at) (w .at + (w .len - w .len)) a b ∙ ap (λ (n : ℕ). take n (drop (w .at) s)) z
 
 -- What a good end says of a walk: it stands inside s, and so does the offset after the name; the bounds are kept; the octets of the
--- expanded name are as many as it tells.
+-- expanded name are as many as it tells, two of them or more for each label, and one.
 pub record Ended (s : List ℕ) (w : Walk) (xs : List ℕ) (r : RecordName) : Type 0 where
   pub inside : w .at < length s
   pub next-inside : (w .pointers ≡ 0 → ⊥) → r .next ≡ w .next
@@ -212,6 +296,7 @@ pub record Ended (s : List ℕ) (w : Walk) (xs : List ℕ) (r : RecordName) : Ty
   pub short : r .len ≤ longestName
   pub few : r .pointers ≤ mostPointers
   pub length-is : r .len ≡ w .len + length xs
+  pub counted : w .len + (r .labels + r .labels + 1) ≤ r .len
 
 goes-first : (w : Walk) (p : ℕ) → w .pointers ≡ 0 → goesOn w p ≡ p
 goes-first w p z = rw (eq-eqb _ _ z)
@@ -223,10 +308,10 @@ pub ended : (k : ℕ) (s : List ℕ) (w : Walk) (r : RecordName) → Within w �
     → Ended s w (expandedFrom k s w) r
 unfolding recordNameFrom expandedFrom
 ended zero s w r b e = absurd (let z : _≡_ {A = ℕ} 0 1 = cc in omega arith)
-ended (suc k) s w r b e = go (met s w) (λ v. ended k s v r)
+ended (suc k) s w r b e = go (met s w) (λ v q. ended k s v q)
   where
     go : Met s w
-        → ((v : Walk) → Within v → recordNameFrom k s v ≡ Good r → Ended s v (expandedFrom k s v) r)
+        → ((v : Walk) (q : RecordName) → Within v → recordNameFrom k s v ≡ Good q → Ended s v (expandedFrom k s v) q)
         → Ended s w (expandedFrom (suc k) s w) r
     go (wrong q) i = absurd (let z : _≡_ {A = ℕ} 0 1 = cc in omega arith)
     go (root h g) i =
@@ -244,28 +329,32 @@ ended (suc k) s w r b e = go (met s w) (λ v. ended k s v r)
           short = omega (arith, b .short);
           few = b .few;
           length-is = refl;
+          counted = omega arith;
         }))
     go (one h g u v) i =
         let t = turn-label s w h g u v in
         let c : ℕ = octetAt s (w .at) in
-        let x = i (pastLabel w c) (record { short = v; few = b .few }) (rw t at e) in
+        let q = after-turn k s w (pastLabel w c) r e t in
+        let x = i (pastLabel w c) (q .fewer) (record { short = v; few = b .few }) (q .is) in
         let l : length (partOf s (w .at) (w .at + (w .len + 1 + c - w .len))) ≡ w .at + (w .len + 1 + c - w .len) - w .at =
         length-part s (w .at) (w .at + (w .len + 1 + c - w .len)) (omega arith) (omega (arith, x .inside)) in
         rw t
         (record {
           inside = h;
-          next-inside = x .next-inside;
-          first-next = x .first-next;
-          short = x .short;
-          few = x .few;
-          length-is = omega (arith, x .length-is, length-append (partOf s (w .at) (w .at + (w .len + 1 + c - w .len))) (expandedFrom k s (pastLabel w c)));
+          next-inside = λ z. q .next-is ∙ x .next-inside z;
+          first-next = λ z. omega (arith, q .next-is, x .first-next z);
+          short = omega (arith, q .len-is, x .short);
+          few = omega (arith, q .pointers-are, x .few);
+          counted = omega (arith, q .len-is, q .labels-are, takes-one w c, x .counted);
+          length-is = omega (arith, q .len-is, x .length-is, length-append (partOf s (w .at) (w .at + (w .len + 1 + c - w .len))) (expandedFrom k s (pastLabel w c)));
         })
     go (jump h g u v m) i =
         let t = turn-jump s w h g u v m in
         let to : ℕ = target s (w .at) in
-        let x = i (followed w to) (record { short = b .short; few = omega arith }) (rw t at e) in
+        let q = after-turn k s w (followed w to) r e t in
+        let x = i (followed w to) (q .fewer) (record { short = b .short; few = omega arith }) (q .is) in
         let nz : w .pointers + 1 ≡ 0 → ⊥ = omega arith in
-        let n : r .next ≡ goesOn w (w .at + 2) = x .next-inside nz in
+        let n : r .next ≡ goesOn w (w .at + 2) = q .next-is ∙ x .next-inside nz in
         let l : length (partOf s (w .at) (w .at + (w .len - w .len))) ≡ w .at + (w .len - w .len) - w .at =
         length-part s (w .at) (w .at + (w .len - w .len)) (omega arith) (omega arith) in
         rw t
@@ -273,19 +362,21 @@ ended (suc k) s w r b e = go (met s w) (λ v. ended k s v r)
           inside = omega arith;
           next-inside = λ z. n ∙ goes-later w (w .at + 2) z;
           first-next = λ z. omega (arith, n, goes-first w (w .at + 2) z);
-          short = x .short;
-          few = x .few;
-          length-is = omega (arith, x .length-is, length-append (partOf s (w .at) (w .at + (w .len - w .len))) (expandedFrom k s (followed w to)));
+          short = omega (arith, q .len-is, x .short);
+          few = omega (arith, q .pointers-are, x .few);
+          counted = omega (arith, q .len-is, q .labels-are, takes-none w to, x .counted);
+          length-is = omega (arith, q .len-is, x .length-is, length-append (partOf s (w .at) (w .at + (w .len - w .len))) (expandedFrom k s (followed w to)));
         })
 
 -- A record's name that is read stands inside s with the offset after it, has at most 255 octets and 16 pointers, and is expanded to as
--- many octets as it tells.
+-- many octets as it tells, two of them or more for each label, and one.
 pub record RecordNameFits (s : List ℕ) (at : ℕ) (r : RecordName) : Type 0 where
   pub inside : at < length s
   pub next-inside : r .next ≤ length s
   pub short : r .len ≤ longestName
   pub few : r .pointers ≤ mostPointers
   pub length-is : length (expandedFrom turns s (walkAt at)) ≡ r .len
+  pub counted : r .labels + r .labels + 1 ≤ r .len
 
 pub record-name-fits : (s : List ℕ) (at : ℕ) (r : RecordName) → recordNameAt s at ≡ Good r → RecordNameFits s at r
 record-name-fits s at r e =
@@ -296,4 +387,5 @@ record-name-fits s at r e =
       short = f .short;
       few = f .few;
       length-is = omega (arith, f .length-is);
+      counted = omega (arith, f .counted);
     }

@@ -20,10 +20,10 @@ use Rattle.names.specs.declared.Turn.the-variants.{More, End, Wrong}
 use Rattle.names.specs.declared.RecordName.{RecordName}
 use Rattle.names.specs.declared.RecordNameRead.{RecordNameRead}
 use Rattle.names.specs.declared.RecordNameRead.the-variants.{Good, Bad}
-use Rattle.names.specs.RecordNameWalk.{target, pastLabel, followed, turnAt, walkAt, recordNameFrom, expandedFrom, expandedAt, ifGood}
+use Rattle.names.specs.RecordNameWalk.{target, pastLabel, followed, turnAt, moreLabels, labelsTaken, walkAt, turns, recordNameFrom, recordNameAt, expandedFrom, expandedAt, ifGood}
 use Rattle.names.specs.Comparison.{isGood, sameRecordName, isEnd, oneMore, endsFrom}
 use Rattle.names.proofs.Lists.{from-here}
-use Rattle.names.proofs.RecordNameWalk.{Met, root, one, jump, wrong, met, turn-root, turn-label, turn-jump, Within, starts-within, left, recordNameHere, expandedHere, onward, no-part, walk-fuel, walk-more, walk-end, walk-wrong, expand-more, expand-end, ended}
+use Rattle.names.proofs.RecordNameWalk.{Met, root, one, jump, wrong, met, turn-root, turn-label, turn-jump, Within, within-start, starts-within, left, recordNameHere, expandedHere, onward, no-part, after-turn, walk-fuel, walk-more, walk-end, walk-wrong, expand-start, expand-more, expand-end, ended}
 use Rattle.names.proofs.Folding.{folded-low, unequal-lengths}
 
 -- the names from two walks on
@@ -35,7 +35,8 @@ same-start : (s : List ℕ) (p : ℕ) (t : List ℕ) (q : ℕ) (a b : Walk) → 
     → sameRecordName s p t q ≡ sameHere s a t b
 unfolding sameRecordName expandedAt
 same-start s p t q a b e f =
-    go (recordNameHere s (walkAt p)) (recordNameHere t (walkAt q)) (expandedHere s (walkAt p)) (expandedHere t (walkAt q))
+    go (recordNameAt s p) (recordNameAt t q) (expandedFrom turns s (walkAt p)) (expandedFrom turns t (walkAt q))
+    ∙ rw (fuelled s p, fuelled t q, expand-start s p (walkAt p) refl, expand-start t q (walkAt q) refl) refl
     ∙ ap (λ (w : Walk). sameHere s w t (walkAt q)) (sym e)
     ∙ ap (λ (w : Walk). sameHere s a t w) (sym f)
   where
@@ -44,6 +45,14 @@ same-start s p t q a b e f =
     go (Good r) (Good u) k l = refl
     go (Good r) Bad k l = refl
     go Bad y k l = refl
+
+    fuelled : (s : List ℕ) (p : ℕ) → recordNameAt s p ≡ recordNameHere s (walkAt p)
+    fuelled s p = walk-fuel turns s (walkAt p) (within-start p) (omega arith)
+
+-- labels more or fewer, a name that is read is read
+still-good : (m : ℕ) (x : RecordNameRead) → isGood (moreLabels m x) ≡ isGood x
+still-good m (Good r) = refl
+still-good m Bad = refl
 
 -- what a turn that goes on has met, as the number of pointers tells
 data Went (s : List ℕ) (w v : Walk) : Type 0 where
@@ -128,13 +137,14 @@ ends-zero : (k : ℕ) (s : List ℕ) (w : Walk) (r : RecordName) → recordNameF
     → (xs : List ℕ) × (expandedFrom k s w ≡ xs ++ (0 ∷ []))
 unfolding recordNameFrom expandedFrom
 ends-zero zero s w r e = absurd (let z : _≡_ {A = ℕ} 0 1 = cc in omega arith)
-ends-zero (suc k) s w r e = go (turnAt s w) refl (λ v. ends-zero k s v r)
+ends-zero (suc k) s w r e = go (turnAt s w) refl (λ v q. ends-zero k s v q)
   where
     go : (t : Turn) → turnAt s w ≡ t
-        → ((v : Walk) → recordNameFrom k s v ≡ Good r → (xs : List ℕ) × (expandedFrom k s v ≡ xs ++ (0 ∷ [])))
+        → ((v : Walk) (q : RecordName) → recordNameFrom k s v ≡ Good q → (xs : List ℕ) × (expandedFrom k s v ≡ xs ++ (0 ∷ [])))
         → (xs : List ℕ) × (expandedFrom (suc k) s w ≡ xs ++ (0 ∷ []))
     go (More v) t i =
-        let x = i v (rw t at e) in (
+        let q = after-turn k s w v r e t in
+        let x = i v (q .fewer) (q .is) in (
           added s w v ++ x .0,
           rw t (ap (λ (l : List ℕ). added s w v ++ l) (x .1) ∙ sym (append-assoc (added s w v) (x .0) (0 ∷ []))),
         )
@@ -183,16 +193,16 @@ zero-alone x (c ∷ xs) e n = absurd (omega (arith, ap length e, length-append x
 module _ (s : List ℕ) (a : Walk) (t : List ℕ) (b : Walk) (i : Within a) (j : Within b) where
   -- A pointer of the one or of the other changes nothing.
   same-first : (v : Walk) → turnAt s a ≡ More v → (v .pointers ≡ a .pointers → ⊥) → sameHere s a t b ≡ sameHere s v t b
-  same-first v e n = rw (walk-more s a i v e, over-pointer s a v i e n)
+  same-first v e n = rw (walk-more s a i v e, still-good (labelsTaken a v) (recordNameHere s v), over-pointer s a v i e n)
 
   same-second : (u : Walk) → turnAt t b ≡ More u → (u .pointers ≡ b .pointers → ⊥) → sameHere s a t b ≡ sameHere s a t u
-  same-second u e n = rw (walk-more t b j u e, over-pointer t b u j e n)
+  same-second u e n = rw (walk-more t b j u e, still-good (labelsTaken b u) (recordNameHere t u), over-pointer t b u j e n)
 
   -- A label of both: they are the same, and what is behind them is.
   same-labels-on : (v u : Walk) → turnAt s a ≡ More v → turnAt t b ≡ More u → v .pointers ≡ a .pointers → u .pointers ≡ b .pointers
       → sameHere s a t b ≡ (sameName (added s a v) (added t b u) and sameHere s v t u)
   same-labels-on v u e f n m =
-      rw (walk-more s a i v e, walk-more t b j u f, expand-more s a i v e, expand-more t b j u f)
+      rw (walk-more s a i v e, still-good (labelsTaken a v) (recordNameHere s v), walk-more t b j u f, still-good (labelsTaken b u) (recordNameHere t u), expand-more s a i v e, expand-more t b j u f)
       (go (recordNameHere s v) (recordNameHere t u) (over-good s a v i e n) (over-good t b u j f m))
     where
       go : (x y : RecordNameRead) → ((r : RecordName) → x ≡ Good r → Labelled (added s a v)) → ((r : RecordName) → y ≡ Good r → Labelled (added t b u))
@@ -210,7 +220,7 @@ module _ (s : List ℕ) (a : Walk) (t : List ℕ) (b : Walk) (i : Within a) (j :
   same-label-root : (v : Walk) (r : RecordName) → turnAt s a ≡ More v → v .pointers ≡ a .pointers → turnAt t b ≡ End r
       → sameHere s a t b ≡ false
   same-label-root v r e n f =
-      rw (walk-more s a i v e, walk-end t b j r f, expand-more s a i v e, expand-end t b j r f)
+      rw (walk-more s a i v e, still-good (labelsTaken a v) (recordNameHere s v), walk-end t b j r f, expand-more s a i v e, expand-end t b j r f)
       (go (recordNameHere s v) (over-good s a v i e n))
     where
       go : (x : RecordNameRead) → ((r : RecordName) → x ≡ Good r → Labelled (added s a v))
@@ -227,7 +237,7 @@ module _ (s : List ℕ) (a : Walk) (t : List ℕ) (b : Walk) (i : Within a) (j :
 
   same-root : (r : RecordName) → turnAt s a ≡ End r → sameHere s a t b ≡ endsFrom t b
   same-root r e =
-      rw (walk-end s a i r e, expand-end s a i r e, walk-fuel t b j) (go (recordNameHere t b) refl)
+      rw (walk-end s a i r e, expand-end s a i r e, walk-fuel turns t b j (omega arith)) (go (recordNameHere t b) refl)
     where
       go : (y : RecordNameRead) → recordNameHere t b ≡ y
           → (isGood y and sameName (0 ∷ []) (expandedHere t b)) ≡ oneMore y (b .len)

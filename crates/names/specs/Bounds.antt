@@ -9,6 +9,10 @@ longestLabel = 63
 abbrev pub longestName : ℕ
 longestName = 255
 
+-- labels of a name: two octets each, or more, and the final zero are at most 255
+abbrev pub mostLabels : ℕ
+mostLabels = 127
+
 -- pointers followed in one name
 abbrev pub mostPointers : ℕ
 mostPointers = 16

@@ -9,15 +9,20 @@ use Rattle.names.specs.Bounds.{longestLabel, longestName}
 use Rattle.names.specs.declared.NameRead.{NameRead}
 use Rattle.names.specs.declared.NameRead.the-variants.{Good, Bad}
 
+-- a name with so many labels more
+abbrev pub moreLabels : ℕ → NameRead → NameRead
+moreLabels m (Good r) = Good (record { len = r .len; labels = m + r .labels })
+moreLabels m Bad = Bad
+
 -- One turn at p, after n octets of the name: its zero octet, or a label, after which `rest` reads on. A label leaves room for the
--- zero octet.
+-- zero octet, which is no label itself.
 abbrev pub nameTurn : List ℕ → ℕ → ℕ → (ℕ → ℕ → NameRead) → NameRead
 nameTurn s p n rest =
     cond (leb (length s) p) Bad
-    (cond (eqb (octetAt s p) 0) (Good (record { len = n + 1 }))
+    (cond (eqb (octetAt s p) 0) (Good (record { len = n + 1; labels = 0 }))
     (cond (ltb longestLabel (octetAt s p)) Bad
     (cond (leb longestName (n + 1 + octetAt s p)) Bad
-    (rest (p + 1 + octetAt s p) (n + 1 + octetAt s p)))))
+    (moreLabels 1 (rest (p + 1 + octetAt s p) (n + 1 + octetAt s p))))))
 
 -- at most k turns
 unfoldable pub nameFrom : ℕ → List ℕ → ℕ → ℕ → NameRead

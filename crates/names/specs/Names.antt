@@ -5,6 +5,7 @@ use mathlib.Core.Path.{_≡_}
 use mathlib.Core.List.{List, [], _∷_, _++_}
 use lib.ListN.{length, take, drop}
 use Rattle.octets.specs.Octets.{Octets}
+use Rattle.names.specs.declared.Name.{Name}
 
 pub record IsLabel (l : List ℕ) : Type 0 where
   pub some : 1 ≤ length l
@@ -37,3 +38,8 @@ pub record NameAt (s : List ℕ) (at len : ℕ) : Type 0 where
   pub is-name : IsName name
   pub len-is : len ≡ length (encode name)
   pub octets : Stand s at (encode name)
+
+-- what the reader tells of it: its octets, and as many labels as the name has
+pub record PlainReadingAt (s : List ℕ) (at : ℕ) (r : Name) : Type 0 where
+  pub name-at : NameAt s at (r .len)
+  pub labels-are : r .labels ≡ length (name-at .name)

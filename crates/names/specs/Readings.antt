@@ -32,6 +32,12 @@ labels [] = []
 labels (label l ∷ r) = l ∷ labels r
 labels (pointer to ∷ r) = labels r
 
+-- the label steps, and the pointers
+abbrev pub labelSteps : List Step → ℕ
+labelSteps [] = 0
+labelSteps (label l ∷ r) = 1 + labelSteps r
+labelSteps (pointer to ∷ r) = labelSteps r
+
 abbrev pub pointers : List Step → ℕ
 pointers [] = 0
 pointers (label l ∷ r) = pointers r
@@ -43,12 +49,13 @@ after at [] = at + 1
 after at (label l ∷ r) = after (at + 1 + length l) r
 after at (pointer to ∷ r) = at + 2
 
--- a record's name stands in s at an offset, and r tells the offset after it, its expanded length and its pointers
+-- a record's name stands in s at an offset, and r tells the offset after it, its expanded length, its pointers and its label steps
 pub record ReadingAt (s : List ℕ) (at : ℕ) (r : RecordName) : Type 0 where
   pub steps : List Step
   pub reads : Reads s at at steps
   pub next-is : r .next ≡ after at steps
   pub len-is : r .len ≡ length (encode (labels steps))
   pub pointers-are : r .pointers ≡ pointers steps
+  pub labels-are : r .labels ≡ labelSteps steps
   pub short : r .len ≤ 255
   pub few : r .pointers ≤ 16

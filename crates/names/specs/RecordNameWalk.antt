@@ -22,8 +22,9 @@ target s p = bigAt s p - pointerMark * 256
 abbrev pub goesOn : Walk → ℕ → ℕ
 goesOn w p = cond (eqb (w .pointers) 0) p (w .next)
 
+-- the root is no label
 abbrev pub atRoot : Walk → RecordName
-atRoot w = record { next = goesOn w (w .at + 1); len = w .len + 1; pointers = w .pointers }
+atRoot w = record { next = goesOn w (w .at + 1); len = w .len + 1; pointers = w .pointers; labels = 0 }
 
 abbrev pub pastLabel : Walk → ℕ → Walk
 pastLabel w c =
@@ -53,15 +54,24 @@ turnAt s w =
     (cond (ltb (octetAt s (w .at)) pointerMark) Wrong
     (pointerTurn s w))))
 
-abbrev pub onTurn : Turn → (Walk → RecordNameRead) → RecordNameRead
-onTurn (More v) rest = rest v
-onTurn (End r) rest = Good r
-onTurn Wrong rest = Bad
+-- a reading with so many labels more
+abbrev pub moreLabels : ℕ → RecordNameRead → RecordNameRead
+moreLabels m (Good r) = Good (record { next = r .next; len = r .len; pointers = r .pointers; labels = m + r .labels })
+moreLabels m Bad = Bad
 
--- at most k turns
+-- a turn from w to v takes a label if it follows no pointer
+abbrev pub labelsTaken : Walk → Walk → ℕ
+labelsTaken w v = cond (eqb (v .pointers) (w .pointers)) 1 0
+
+abbrev pub onTurn : Walk → Turn → (Walk → RecordNameRead) → RecordNameRead
+onTurn w (More v) rest = moreLabels (labelsTaken w v) (rest v)
+onTurn w (End r) rest = Good r
+onTurn w Wrong rest = Bad
+
+-- at most k turns; the labels are those from w on
 unfoldable pub recordNameFrom : ℕ → List ℕ → Walk → RecordNameRead
 recordNameFrom zero s w = Bad
-recordNameFrom (suc k) s w = onTurn (turnAt s w) (recordNameFrom k s)
+recordNameFrom (suc k) s w = onTurn w (turnAt s w) (recordNameFrom k s)
 
 abbrev pub walkAt : ℕ → Walk
 walkAt at = record { at = at; run = at; pointers = 0; len = 0; next = 0 }

@@ -7,12 +7,13 @@ ghost use Rattle.octets.specs.Tests.{_and_};
 ghost use Rattle.names.specs.Bounds.{longestName, mostPointers, pointerMark};
 ghost use Rattle.names.specs.Folding.{folded, sameName};
 ghost use Rattle.names.specs.NameWalk.{nameAt};
-ghost use Rattle.names.specs.RecordNameWalk.{turnAt, pointerTurn, goesOn, walkAt, turns, recordNameFrom, recordNameAt, expandedFrom, expandedAt};
+ghost use Rattle.names.specs.RecordNameWalk.{turnAt, pointerTurn, goesOn, walkAt, turns, labelsTaken, recordNameFrom, recordNameAt, expandedFrom, expandedAt};
 ghost use Rattle.names.specs.Comparison.{isEnd, endsFrom, sameRecordName};
 
-// A name without pointers: its octets with the zero octet.
+// A name without pointers: its octets with the zero octet, and its labels.
 pub struct Name {
     pub len: usize,
+    pub labels: usize,
 }
 
 impl Name {
@@ -36,10 +37,14 @@ pub fn read_name(s: &[u8], at: usize) -> NameRead
 {
     let mut p = at;
     let mut n: usize = 0;
+    let mut labels: usize = 0;
     while p < s.len() {
         let c = s[p] as usize;
         if c == 0 {
-            return NameRead::Good(Name { len: n + 1 });
+            return NameRead::Good(Name {
+                len: n + 1,
+                labels: labels,
+            });
         }
         if Name::LABEL < c {
             return NameRead::Bad;
@@ -49,6 +54,7 @@ pub fn read_name(s: &[u8], at: usize) -> NameRead
         }
         n = n + 1 + c;
         p = p + 1 + c;
+        labels = labels + 1;
     }
     NameRead::Bad
 }
@@ -83,11 +89,12 @@ pub fn same_name(a: &[u8], b: &[u8]) -> bool
     same
 }
 
-// The name in a record: the offset after it, the octets of the expanded name, and the pointers followed.
+// The name in a record: the offset after it, the octets of the expanded name, the pointers followed, and the labels taken.
 pub struct RecordName {
     pub next: usize,
     pub len: usize,
     pub pointers: usize,
+    pub labels: usize,
 }
 
 impl RecordName {
@@ -185,6 +192,7 @@ fn next_turn(s: &[u8], w: Walk) -> Turn
             next: goes_on(w, at + 1),
             len: w.len + 1,
             pointers: w.pointers,
+            labels: 0,
         });
     }
     if c <= Name::LABEL {
@@ -205,20 +213,39 @@ fn next_turn(s: &[u8], w: Walk) -> Turn
     pointer_turn(s, w)
 }
 
-// Reads on from a walk to the end of the name.
+// The labels taken, with the one of a turn from w to v: a turn that follows no pointer takes a label.
+fn labels_after(labels: usize, w: Walk, v: Walk) -> usize
+    requires { ⌜ labels < longestName ⌝ }
+    ensures { λ r. ⌜ r ≡ labels + labelsTaken w v ⌝ }
+{
+    if v.pointers == w.pointers {
+        labels + 1
+    } else {
+        labels
+    }
+}
+
+// Reads on from a walk to the end of the name; the labels are those from there on.
 fn read_from(s: &[u8], from: Walk) -> RecordNameRead
     requires { ⌜ (from .len < longestName) × (from .pointers ≤ mostPointers) ⌝ }
     ensures { λ r. ⌜ r ≡ recordNameFrom turns (now (s .entry)) from ⌝ }
 {
     let mut w = from;
+    let mut labels: usize = 0;
     loop {
         let t = next_turn(s, w);
         match t {
             Turn::More(v) => {
+                labels = labels_after(labels, w, v);
                 w = v;
             }
             Turn::End(r) => {
-                return RecordNameRead::Good(r);
+                return RecordNameRead::Good(RecordName {
+                    next: r.next,
+                    len: r.len,
+                    pointers: r.pointers,
+                    labels: labels,
+                });
             }
             Turn::Wrong => {
                 return RecordNameRead::Bad;

@@ -1,24 +1,31 @@
 -- `names::read_name` meets its contract. The loop's invariant: the name at `at` is what the walk finds from `p` on, after n octets
--- of the name, with fuel for what is left of 255.
-use Prim.Native.Nat.{_-_, _<_}
-use mathlib.Core.Path.{_≡_, refl, sym, _∙_}
+-- of the name, with fuel for what is left of 255, and the labels so far.
+use Prim.Native.Nat.{ℕ, _+_, _-_, _<_, _≤_}
+use mathlib.Core.Path.{_≡_, sym, ap, _∙_}
 use native.Mathlib.Omega.{arith}
 use borrow.Author.Needs.{needs}
 use borrow.Author.Tests.{eq-eqb, ne-eqb, lt-ltb, le-ltb, le-leb, lt-leb}
 use Rattle.names.specs.Bounds.{longestName}
-use Rattle.names.specs.NameWalk.{nameAt}
-use Rattle.names.proofs.NameWalk.{nameHere, name-turn, name-fuel}
+use Rattle.names.specs.declared.NameRead.the-variants.{Good}
+use Rattle.names.specs.NameWalk.{moreLabels, nameAt}
+use Rattle.names.proofs.NameWalk.{more-none, nameHere, name-turn, name-counts}
 use Rattle.names.proofs.read_name.Statement.{statement}
 use Rattle.names.proofs.read_name.Tie as tie
 
 abbrev Inv-loop : tie.InvT-loop
-Inv-loop s at p₀ n₀ p n = (n < longestName) × (nameAt s at ≡ nameHere s p n)
+Inv-loop s at p₀ n₀ labels₀ p n labels = (n < longestName) × (labels ≤ n) × (nameAt s at ≡ moreLabels labels (nameHere s p n))
 
 abbrev μ-loop : tie.MeasureT-loop
-μ-loop s at p₀ n₀ p n = longestName - n
+μ-loop s at p₀ n₀ labels₀ p n labels = longestName - n
+
+-- the root is no label
+ends : (l len : ℕ) → moreLabels l (Good (record { len = len; labels = 0 })) ≡ Good (record { len = len; labels = l })
+ends l len =
+    let z : l + 0 ≡ l = omega arith in
+    ap (λ (k : ℕ). Good (record { len = len; labels = k })) z
 
 loop-holds : tie.Need-loop-holds Inv-loop μ-loop
-loop-holds c = (search needs, refl)
+loop-holds c = (search needs, search needs, sym (more-none _))
 
 shared-slice-read-c : tie.Need-shared-slice-read-c Inv-loop μ-loop
 shared-slice-read-c c = search needs
@@ -26,18 +33,18 @@ shared-slice-read-c c = search needs
 cast-c : tie.Need-cast-c Inv-loop μ-loop
 cast-c c = omega (arith, c .shared-slice-known .given (c .before .before .loop .p))
 
-add-t10 : tie.Need-add-t10 Inv-loop μ-loop
-add-t10 c = search needs
+add-t11 : tie.Need-add-t11 Inv-loop μ-loop
+add-t11 c = search needs
 
 returns : tie.Need-returns Inv-loop μ-loop
 returns c =
     let w = c .before .before .before .loop in
-    sym (w .inv .1 ∙ name-turn _ _ _ (w .inv .0) ∙ rw (lt-leb _ _ (c .before .before .loop-test .taken), eq-eqb _ _ (c .if1 .taken)))
+    sym (w .inv .2 ∙ ap (moreLabels _) (name-turn _ _ _ (w .inv .0)) ∙ rw (lt-leb _ _ (c .before .before .loop-test .taken), eq-eqb _ _ (c .if1 .taken)) (ends _ _))
 
 returns-2 : tie.Need-returns-2 Inv-loop μ-loop
 returns-2 c =
     let w = c .before .before .before .before .loop in
-    sym (w .inv .1 ∙ name-turn _ _ _ (w .inv .0) ∙ rw (lt-leb _ _ (c .before .before .before .loop-test .taken), ne-eqb _ _ (c .before .if1 .left), lt-ltb _ _ (c .if2 .taken)))
+    sym (w .inv .2 ∙ ap (moreLabels _) (name-turn _ _ _ (w .inv .0)) ∙ rw (lt-leb _ _ (c .before .before .before .loop-test .taken), ne-eqb _ _ (c .before .if1 .left), lt-ltb _ _ (c .if2 .taken)))
 
 add-if3 : tie.Need-add-if3 Inv-loop μ-loop
 add-if3 c = search needs
@@ -48,7 +55,7 @@ add-if3-2 c = search needs
 returns-3 : tie.Need-returns-3 Inv-loop μ-loop
 returns-3 c =
     let w = c .before .before .before .before .before .loop in
-    sym (w .inv .1 ∙ name-turn _ _ _ (w .inv .0) ∙ rw (lt-leb _ _ (c .before .before .before .before .loop-test .taken), ne-eqb _ _ (c .before .before .if1 .left), le-ltb _ _ (c .before .if2 .left), le-leb _ _ (c .if3 .taken)))
+    sym (w .inv .2 ∙ ap (moreLabels _) (name-turn _ _ _ (w .inv .0)) ∙ rw (lt-leb _ _ (c .before .before .before .before .loop-test .taken), ne-eqb _ _ (c .before .before .if1 .left), le-ltb _ _ (c .before .if2 .left), le-leb _ _ (c .if3 .taken)))
 
 add-n : tie.Need-add-n Inv-loop μ-loop
 add-n c = search needs
@@ -62,6 +69,9 @@ add-p c = search needs
 add-p-2 : tie.Need-add-p-2 Inv-loop μ-loop
 add-p-2 c = search needs
 
+add-labels : tie.Need-add-labels Inv-loop μ-loop
+add-labels c = search needs
+
 loop-less : tie.Need-loop-less Inv-loop μ-loop
 loop-less c = search needs
 
@@ -69,16 +79,14 @@ loop-again : tie.Need-loop-again Inv-loop μ-loop
 loop-again c =
     let w = c .before .before .before .before .before .loop in (
       search needs,
-      w .inv .1
-          ∙ name-turn _ _ _ (w .inv .0)
-          ∙ rw (lt-leb _ _ (c .before .before .before .before .loop-test .taken), ne-eqb _ _ (c .before .before .if1 .left), le-ltb _ _ (c .before .if2 .left), lt-leb _ _ (c .if3 .left))
-          (name-fuel _ _ _ _ _ (c .if3 .left) (omega arith) (omega arith)),
+      search needs,
+      name-counts _ _ (w .p) (w .n) (w .labels) (w .inv .0) (w .inv .2) (c .before .before .before .before .loop-test .taken) (c .before .before .if1 .left) (c .before .if2 .left) (c .if3 .left),
     )
 
 returns-4 : tie.Need-returns-4 Inv-loop μ-loop
 returns-4 c =
     let w = c .before .loop in
-    sym (w .inv .1 ∙ name-turn _ _ _ (w .inv .0) ∙ rw (le-leb _ _ (c .loop-test .left)))
+    sym (w .inv .2 ∙ ap (moreLabels _) (name-turn _ _ _ (w .inv .0)) ∙ rw (le-leb _ _ (c .loop-test .left)))
 
 pub read-name-spec : {M : Type 1} → statement M
 read-name-spec =
@@ -89,7 +97,7 @@ read-name-spec =
     loop-holds
     shared-slice-read-c
     cast-c
-    add-t10
+    add-t11
     returns
     returns-2
     add-if3
@@ -99,6 +107,7 @@ read-name-spec =
     add-n-2
     add-p
     add-p-2
+    add-labels
     loop-less
     loop-again
     returns-4)
