@@ -59,6 +59,7 @@ pub enum Outcome {
     NameRead {
         next: usize,
         pointers: usize,
+        labels: usize,
         octets: Vec<u8>,
     },
 }
@@ -72,8 +73,8 @@ pub fn line(number: usize, call: &Call, outcome: &Outcome) -> String {
     match outcome {
         // The line of entry 40 is its kind alone.
         Outcome::Settings => {}
-        Outcome::NameRead { next, pointers, octets } => {
-            put(&mut text, format_args!(" next={next} pointers={pointers} name="));
+        Outcome::NameRead { next, pointers, labels, octets } => {
+            put(&mut text, format_args!(" next={next} pointers={pointers} labels={labels} name="));
             hexadecimal(&mut text, octets);
         }
         _ => {

@@ -17,6 +17,8 @@ pub struct Reading {
     /// The offset after the name at the place where its reading began.
     pub next: usize,
     pub pointers: usize,
+    /// How many of the labels stand after the last pointer.
+    pub last_run: usize,
 }
 
 /// The number of octets of a name without pointers.
@@ -61,12 +63,13 @@ pub fn read_with_pointers(message: &[u8], start: usize, fault: Fault) -> Option<
     let most_pointers = MOST_POINTERS + usize::from(fault == faults::POINTER_17);
     let longest = LONGEST_NAME + usize::from(fault == faults::NAME_OF_256);
     let lowest = if fault == faults::POINTER_INTO_HEADER { 0 } else { HEADER };
-    let mut reading = Reading { labels: Labels::new(), next: 0, pointers: 0 };
+    let mut reading = Reading { labels: Labels::new(), next: 0, pointers: 0, last_run: 0 };
     let mut run = start;
     let mut expanded = 1;
     loop {
         let (labels, stop) = read_run(message, run)?;
         expanded += length(&labels) - 1;
+        reading.last_run = labels.len();
         reading.labels.extend(labels);
         if expanded > longest {
             return None;
@@ -82,6 +85,19 @@ pub fn read_with_pointers(message: &[u8], start: usize, fault: Fault) -> Option<
         }
         reading.pointers += 1;
         run = target;
+    }
+}
+
+/// The number of labels of a name that was read. Neither the root nor a pointer is one.
+pub fn count(reading: &Reading, fault: Fault) -> usize {
+    let Reading { labels, pointers, last_run, .. } = reading;
+    match fault {
+        faults::LABELS_BY_OCTETS => length(labels) - 1,
+        faults::LABELS_AND_POINTERS => labels.len() + pointers,
+        faults::LABELS_AND_ROOT => labels.len() + 1,
+        faults::LABELS_OF_LAST_RUN => *last_run,
+        faults::LABELS_126 => labels.len().min(126),
+        _ => labels.len(),
     }
 }
 
@@ -163,7 +179,7 @@ mod tests {
             message.extend([0xC0, target]);
         }
         let read = |at| read_with_pointers(&message, at, faults::NONE);
-        assert_eq!(read(13 + 2 * 15), Some(Reading { labels: Labels::new(), next: 45, pointers: 16 }));
+        assert_eq!(read(13 + 2 * 15), Some(Reading { labels: Labels::new(), next: 45, pointers: 16, last_run: 0 }));
         assert_eq!(read(13 + 2 * 16), None);
     }
 
@@ -174,7 +190,41 @@ mod tests {
         assert_eq!(read(12), None);
         assert_eq!(read(16), None);
         let labels = vec![b"a".to_vec(), b"b".to_vec()];
-        assert_eq!(read(21), Some(Reading { labels, next: 25, pointers: 1 }));
+        assert_eq!(read(21), Some(Reading { labels, next: 25, pointers: 1, last_run: 1 }));
         assert_eq!(read(25), None);
+    }
+
+    /// The number of labels of the name at an offset of a message; none if it cannot be read.
+    fn count_at(message: &[u8], at: usize, fault: Fault) -> Option<usize> {
+        read_with_pointers(message, at, faults::NONE).map(|reading| count(&reading, fault))
+    }
+
+    #[test]
+    fn a_name_has_at_most_127_labels() {
+        for (labels, octets) in [(0, 1), (1, 3), (126, 253), (127, 255)] {
+            let name = [b"\x01x".repeat(labels), vec![0]].concat();
+            assert_eq!(count_at(&name, 0, faults::NONE), Some(labels));
+            assert_eq!(read_plain(&name, 0).map(|(read, next)| (read.len(), next)), Some((labels, octets)));
+        }
+        let name = [b"\x01x".repeat(128), vec![0]].concat();
+        assert_eq!((name.len(), count_at(&name, 0, faults::NONE), read_plain(&name, 0)), (257, None, None));
+    }
+
+    #[test]
+    fn labels_behind_a_pointer_count_on() {
+        // 63 labels at 12, whose final zero is at 138. Then 64 labels, or 65, and a pointer to 12.
+        let end = [vec![0; 12], b"\x01x".repeat(63), vec![0]].concat();
+        let name = |labels| [&end[..], &b"\x01y".repeat(labels), &[0xC0, 12]].concat();
+        assert_eq!(count_at(&name(64), 139, faults::NONE), Some(127));
+        assert_eq!(count_at(&name(65), 139, faults::NONE), None);
+        // The label c at 12; b and a pointer to it; two labels and a pointer to that; pointers to these and to the root.
+        let message = b"\0\0\0\0\0\0\0\0\0\0\0\0\x01c\0\x01b\xc0\x0c\x02aa\x03aaa\xc0\x0f\xc0\x13\xc0\x0e";
+        let counts = |fault| [12, 15, 19, 28, 30].map(|at| count_at(message, at, fault).unwrap_or(999));
+        assert_eq!(counts(faults::NONE), [1, 2, 4, 4, 0]);
+        assert_eq!(counts(faults::LABELS_BY_OCTETS), [2, 4, 11, 11, 0]);
+        assert_eq!(counts(faults::LABELS_AND_POINTERS), [1, 3, 6, 7, 1]);
+        assert_eq!(counts(faults::LABELS_AND_ROOT), [2, 3, 5, 5, 1]);
+        assert_eq!(counts(faults::LABELS_OF_LAST_RUN), [1, 1, 1, 1, 0]);
+        assert_eq!(count_at(&name(64), 139, faults::LABELS_126), Some(126));
     }
 }

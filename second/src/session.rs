@@ -100,9 +100,12 @@ impl Session {
 
 fn read_name(message: &[u8], offset: usize, fault: Fault) -> Outcome {
     match names::read_with_pointers(message, offset, fault) {
-        Some(names::Reading { labels, next, pointers }) => {
-            Outcome::NameRead { next, pointers, octets: names::encode(&labels) }
-        }
+        Some(reading) => Outcome::NameRead {
+            next: reading.next,
+            pointers: reading.pointers,
+            labels: names::count(&reading, fault),
+            octets: names::encode(&reading.labels),
+        },
         None => Outcome::NameBad,
     }
 }
@@ -227,6 +230,14 @@ mod tests {
         assert_eq!(query(&mut session, [4, 0], b"Scale3", 28), Outcome::Refused { no: 14, at: None });
         assert_eq!(reply_octets(query(&mut session, [0, 0], b"scale3", 1))[2..4], [0x80, 0]);
         assert_eq!(session.call(&Call::Tick { prefix: prefix(400, 1) }), Outcome::Unique { name: 0 });
+    }
+
+    #[test]
+    fn a_name_is_printed_with_its_labels() {
+        let octets = b"\0\0\0\0\0\0\0\0\0\0\0\0\x05plant\0\x06scale3\xc0\x0c".to_vec();
+        let file = Call::Name { offset: 19, octets }.encode();
+        let want = "0 name next=28 pointers=1 labels=2 name=067363616c653305706c616e7400\n";
+        assert_eq!(run(&file, faults::NONE), want);
     }
 
     #[test]

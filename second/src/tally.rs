@@ -23,7 +23,8 @@ const EXPECTED: [(&str, &str); 15] = [
     (
         "of note: others",
         "4096-octet-table 4096-refused 8-names no-names 9194-octets last-time class-255-defence found-0 found-many \
-         next-part same-tick 1-pointer 16-pointers 255-octet-name",
+         next-part same-tick 1-pointer 16-pointers 255-octet-name 0-labels 0-labels-16-pointers 127-labels \
+         127-labels-16-pointers",
     ),
 ];
 
@@ -135,6 +136,7 @@ fn of_note(line: &Line, call: Option<&Call>) -> Vec<&'static str> {
         _ => 0,
     };
     let many = line.number("an").is_some_and(|count| count > 1);
+    let counted = |labels, pointers| line.field("labels") == labels && line.field("pointers") == pointers;
     let named = [
         ("4096-octet-table", line.kind == "table" && accepted && lent == 4096),
         ("4096-refused", line.kind == "table" && line.field("at") == "4096"),
@@ -148,6 +150,10 @@ fn of_note(line: &Line, call: Option<&Call>) -> Vec<&'static str> {
         ("1-pointer", line.field("pointers") == "1"),
         ("16-pointers", line.field("pointers") == "16"),
         ("255-octet-name", line.kind == "name" && line.field("name").len() == 510),
+        ("0-labels", counted("0", "0")),
+        ("0-labels-16-pointers", counted("0", "16")),
+        ("127-labels", counted("127", "0")),
+        ("127-labels-16-pointers", counted("127", "16")),
     ];
     named.iter().filter(|(_, is)| *is).map(|(name, _)| *name).collect()
 }
@@ -252,6 +258,20 @@ mod tests {
         assert!(tally.faults().iter().all(|fault| fault.starts_with("never reached: ")));
         tally.add(&file, "0 tick if=0 t=5 id=6 refused no=5\n");
         assert!(tally.faults().contains(&"not expected: tick: 5 (1 times)".to_string()));
+    }
+
+    #[test]
+    fn numbers_of_labels_are_of_note() {
+        let notes = |labels, pointers| {
+            let line = format!("0 name next=9 pointers={pointers} labels={labels} name=00");
+            of_note(&Line::read(&line), None)
+        };
+        assert_eq!(notes(0, 0), ["0-labels"]);
+        assert_eq!(notes(0, 16), ["16-pointers", "0-labels-16-pointers"]);
+        assert_eq!(notes(127, 0), ["127-labels"]);
+        assert_eq!(notes(127, 16), ["16-pointers", "127-labels-16-pointers"]);
+        assert!(notes(126, 0).is_empty() && notes(127, 2).is_empty());
+        assert!(of_note(&Line::read("0 name bad"), None).is_empty());
     }
 
     #[test]

@@ -1,7 +1,8 @@
 //! Names with compression pointers: chains of up to 17 pointers, targets at and beyond each bound, expanded names of
-//! 255 and 256 octets; as owners of answer records and as messages for entry 54.
+//! 255 and 256 octets, no label and 127 of them; as owners of answer records and as messages for entry 54.
 
 use super::names;
+use super::sheet::Sheet;
 use super::Maker;
 use crate::calls::Call;
 use crate::random::Random;
@@ -139,6 +140,17 @@ fn long_chain(random: &mut Random, message: &mut Vec<u8>) -> usize {
     earlier
 }
 
+/// A name with as few labels or as many as there can be, or one more, with up to 17 pointers; gives its offset.
+fn few_or_many(random: &mut Random, message: &mut Vec<u8>) -> usize {
+    let count = random.pick(&[0, 0, 0, 1, 126, 127, 127, 127, 128]);
+    let labels = (0..count).map(|_| vec![random.octet()]).collect();
+    let pointers = random.pick(&[0, 0, 1, 2, 15, 16, 16, 17]);
+    let mut sheet = Sheet { octets: std::mem::take(message), places: Vec::new() };
+    let offset = sheet.spell(random, &labels, pointers, None);
+    *message = sheet.octets;
+    offset
+}
+
 /// Names before the one that is read need both octets of a pointer at higher offsets; 16,383 is the highest.
 fn first_offset(random: &mut Random) -> usize {
     match random.below(60) {
@@ -174,7 +186,7 @@ impl Maker {
         let mut message = random.octets(begin);
         let name = &self.pool[random.below(self.pool.len())];
         let mut offset = begin;
-        match random.below(10) {
+        match random.below(12) {
             0 => message.extend(name),
             1..=4 => {
                 message.extend(name);
@@ -193,6 +205,7 @@ impl Maker {
                 offset = message.len();
                 bad_owner(random, &mut message);
             }
+            9 | 10 => offset = few_or_many(random, &mut message),
             _ => message.extend(names::bad(random, name)),
         }
         slip(random, &mut message, &mut offset);
