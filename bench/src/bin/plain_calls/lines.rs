@@ -33,12 +33,16 @@ pub fn settings(text: &mut String, number: usize) {
 }
 
 pub fn name(text: &mut String, number: usize, message: &[u8], offset: usize) {
-    let mut expanded = Vec::new();
-    let Some(read) = names::read_labels(message, offset, |label| expanded.extend(label)) else {
+    let (mut expanded, mut labels) = (Vec::new(), 0);
+    let take = |label: &[u8]| {
+        expanded.extend(label);
+        labels += 1;
+    };
+    let Some(read) = names::read_labels(message, offset, take) else {
         return put(text, format_args!("{number} name bad\n"));
     };
     expanded.push(0);
-    put(text, format_args!("{number} name next={} pointers={} name=", read.next, read.pointers));
+    put(text, format_args!("{number} name next={} pointers={} labels={labels} name=", read.next, read.pointers));
     put_hex(text, &expanded);
     text.push('\n');
 }
