@@ -116,8 +116,8 @@ def sent(address, port, octets):
 
 
 def name_read(call, words, what):
-    """next=OFFSET pointers=COUNT NAME, the name as expanded."""
-    return [*required(words, "next", "pointers"), f"name={w.name(words.take('the name')).hex()}"]
+    """next=OFFSET pointers=COUNT labels=COUNT NAME, the name as expanded."""
+    return [*required(words, "next", "pointers", "labels"), f"name={w.name(words.take('the name')).hex()}"]
 
 
 READERS = {

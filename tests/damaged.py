@@ -51,7 +51,7 @@ FORMS = {
     "ask": rf"query {SENT}|refused no=(1|3|4|10)",
     "answer": r"(part|found) at=\d+ an=\d+|refused no=(1|[3-9]|10|1[5-8])",
     "ask-tick": rf"query {SENT}|found|none|quiet|refused no=(1|4)",
-    "name": r"bad|next=\d+ pointers=\d+ name=([0-9a-f]{2})+",
+    "name": r"bad|next=\d+ pointers=\d+ labels=\d+ name=([0-9a-f]{2})+",
 }
 
 

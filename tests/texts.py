@@ -46,6 +46,7 @@ MISTAKES = [
     ("datagram t=0 from=192.0.2.99:1 to=192.0.2.17 query scale3 A", "line 1: the question's class is missing"),
     ("datagram t=0 from=192.0.2.99:1 to=192.0.2.17 query flags=X scale3 A IN", "line 1: not a flag: X"),
     ("name at=0 pointer:16384", "line 1: not a pointer's target: 16384"),
+    ("name at=0 name:x\n> next=3 pointers=0 x", "line 2: labels= is missing"),
     ("table cut=10 unique abc", "line 1: cut=10 of 9 octets"),
     ("tick t=0\n> maybe", "line 2: no line of this call: maybe"),
     ("tick t=0\n> ready", "line 2: no line of this call: ready"),
