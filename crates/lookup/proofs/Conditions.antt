@@ -16,7 +16,7 @@ use Rattle.names.specs.Names.{Labels, encode}
 use Rattle.names.specs.declared.NameRead.{NameRead}
 use Rattle.names.specs.declared.NameRead.the-variants.{Good, Bad}
 use Rattle.names.specs.NameWalk.{nameAt}
-use Rattle.names.proofs.Names.{encode-some, reads-a-name}
+use Rattle.names.proofs.Names.{encode-some, reads-a-name, finds-name}
 use Rattle.names.proofs.Folding.{same-name-is}
 use Rattle.message.specs.declared.Question.{Question}
 use Rattle.message.specs.declared.Walked.{Walked}
@@ -68,7 +68,7 @@ name-is octets o = (λ b. to (nameAt octets 0) refl b, from)
     to (Good n) e b =
         let f = neither _ _ .0 b in
         let m : n .len ≡ length octets = same-number _ _ .0 (not-not _ .0 (f .1)) in
-        let r = reads-a-name octets 0 (n .len) o .0 e in
+        let r = reads-a-name octets 0 n o .0 e .name-at in
         let x : octets ≡ encode (r .name) = sym (take-length octets) ∙ ap (λ (k : ℕ). take k octets) (sym m ∙ r .len-is) ∙ r .octets in
         record {
           name = r .name;
@@ -83,8 +83,8 @@ name-is octets o = (λ b. to (nameAt octets 0) refl b, from)
         let n : Labels = w .name in
         let s : take (length (encode n)) octets ≡ encode n =
         subst (λ (x : List ℕ). take (length (encode n)) x ≡ encode n) (sym (w .octets-are)) (take-length (encode n)) in
-        let e : nameAt octets 0 ≡ Good (record { len = length octets }) =
-        reads-a-name octets 0 (length octets) o .1 (record { name = n; is-name = w .is-name; len-is = ap length (w .octets-are); octets = s }) in
+        let e : nameAt octets 0 ≡ Good (record { len = length octets; labels = length n }) =
+        finds-name octets 0 (length octets) o (record { name = n; is-name = w .is-name; len-is = ap length (w .octets-are); octets = s }) in
         let d : eqb (length octets) 1 ≡ false = ne-eqb _ _ (λ x. w .not-root (root-alone n (sym (ap length (w .octets-are)) ∙ x))) in
         let f : not (eqb (length octets) (length octets)) ≡ false = not-not _ .1 (eq-eqb (length octets) (length octets) refl) in
         rw e (neither _ _ .1 (d, f))

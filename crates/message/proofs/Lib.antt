@@ -1,6 +1,7 @@
 pub mod Headers
 pub mod Questions
 pub mod Records
+pub mod Owners
 pub mod Query
 pub mod Reply
 pub mod ReplyLaws

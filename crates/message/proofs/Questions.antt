@@ -20,7 +20,7 @@ use Rattle.names.specs.declared.NameRead.the-variants.{Good as GoodName, Bad as
 use Rattle.names.specs.Names.{Labels, encode, IsName}
 use Rattle.names.specs.NameWalk.{nameAt}
 use Rattle.names.proofs.Lists.{here, behind, past, stand-drop}
-use Rattle.names.proofs.Names.{reads-a-name, reads-back}
+use Rattle.names.proofs.Names.{reads-a-name, finds-name, reads-back}
 use Rattle.message.specs.declared.Question.{Question}
 use Rattle.message.specs.declared.QuestionRead.{QuestionRead}
 use Rattle.message.specs.declared.QuestionRead.the-variants.{Good, Bad}
@@ -56,7 +56,7 @@ name-within s at = go (nameAt s at)
 is-question : (s : List ℕ) (at : ℕ) (n : Name) → Octets s → nameAt s at ≡ GoodName n → at + n .len + 4 ≤ length s
     → IsQuestion s at (questionOf s at (n .len))
 is-question s at n o e h =
-    record { name = reads-a-name s at (n .len) o .0 e; whole = h; qtype = refl; class = refl; end = refl }
+    record { name = reads-a-name s at n o .0 e .name-at; whole = h; qtype = refl; class = refl; end = refl }
 
 found : (s : List ℕ) (at : ℕ) (q : Question) → Octets s → questionAt s at ≡ Good q → IsQuestion s at q
 found s at q o e = go (nameAt s at) refl
@@ -78,7 +78,7 @@ same-question p q r = cc
 
 read : (s : List ℕ) (at : ℕ) (q : Question) → Octets s → IsQuestion s at q → questionAt s at ≡ Good q
 read s at q o f =
-    question-good s at (record { len = q .name }) (reads-a-name s at (q .name) o .1 (f .name)) (f .whole)
+    question-good s at _ (finds-name s at (q .name) o (f .name)) (f .whole)
     ∙ ap Good (same-question (sym (f .qtype)) (sym (f .class)) (sym (f .end)))
 
 -- The reader finds a question exactly if one stands there: a name, and type and class after it, all inside.
@@ -126,7 +126,7 @@ question-back b n qtype class r h =
     let f : drop (p + 2) s ≡ u = past s p (bigOctets qtype) u e in
     let l : length s ≡ length b + (length (encode n) + length t) = simp length-append in
     rw same
-    (question-good s (length b) (record { len = length (encode n) }) (reads-back b n t h) (omega arith)
+    (question-good s (length b) _ (reads-back b n t h) (omega arith)
     ∙ ap Good (same-question (big-here s p qtype u e) (big-here s (p + 2) class r f) refl))
 
 -- the octets of the word at p, and the rest

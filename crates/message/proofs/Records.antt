@@ -21,7 +21,7 @@ use Rattle.message.specs.declared.ResourceRecord.{ResourceRecord}
 use Rattle.message.specs.declared.RecordRead.{RecordRead}
 use Rattle.message.specs.declared.RecordRead.the-variants.{Good, Bad}
 use Rattle.message.specs.declared.Walked.the-variants.{End, Stopped}
-use Rattle.message.specs.Records.{recordOf, recordAt, walkFrom, IsRecord, AreRecords, StopsAt}
+use Rattle.message.specs.Records.{recordOf, recordAt, walkFrom, recordsFrom, IsRecord, AreRecords, StopsAt}
 
 -- ---- the reader, by what it finds
 
@@ -127,21 +127,22 @@ walk-end (suc k) s p h = absurd (omega arith)
 
 -- ---- the walk in plain words
 
--- so many records stand one after another, from an offset up to an end
-abbrev Walks : ℕ → List ℕ → ℕ → ℕ → Type 0
-Walks k s at end = (rs : List ResourceRecord) × (length rs ≡ k) × AreRecords s at rs end
+-- k records stand one after another, from an offset up to an end
+abbrev Walks : ℕ → List ℕ → ℕ → List ResourceRecord → ℕ → Type 0
+Walks k s at rs end = (length rs ≡ k) × AreRecords s at rs end
 
-walked : (k : ℕ) (s : List ℕ) (at e : ℕ) → Octets s → walkFrom k s at ≡ End e → Walks k s at e
-unfolding walkFrom
-walked zero s at e o f = ([], refl, cc)
-walked (suc k) s at e o f = go (recordAt s at) refl (λ r. walked k s (r .next) e o)
+-- A walk that ends has passed k records.
+pub walk-passes : (k : ℕ) (s : List ℕ) (at e : ℕ) → Octets s → walkFrom k s at ≡ End e → Walks k s at (recordsFrom k s at) e
+unfolding walkFrom recordsFrom
+walk-passes zero s at e o f = (refl, cc)
+walk-passes (suc k) s at e o f = go (recordAt s at) refl (λ r. walk-passes k s (r .next) e o)
   where
     go : (m : RecordRead) → recordAt s at ≡ m
-        → ((r : ResourceRecord) → walkFrom k s (r .next) ≡ End e → Walks k s (r .next) e)
-        → Walks (suc k) s at e
+        → ((r : ResourceRecord) → walkFrom k s (r .next) ≡ End e → Walks k s (r .next) (recordsFrom k s (r .next)) e)
+        → Walks (suc k) s at (recordsFrom (suc k) s at) e
     go (Good r) g i =
         let w = i r (rw g at f) in
-        (r ∷ w .0, ap suc (w .1), (found s at r o g, w .2))
+        rw g (ap suc (w .0), (found s at r o g, w .1))
     go Bad g i = let z : _≡_ {A = ℕ} 0 1 = cc (rw g at f) in absurd (omega arith)
 
 walks-to : (k : ℕ) (s : List ℕ) (at e : ℕ) (rs : List ResourceRecord) → Octets s → length rs ≡ k → AreRecords s at rs e
@@ -156,32 +157,27 @@ walks-to (suc k) s at e (r ∷ rs) o l a =
 -- The walk over k records ends at an offset exactly if k records stand one after another up to it.
 pub walks : (k : ℕ) (s : List ℕ) (at e : ℕ) → Octets s
     → (walkFrom k s at ≡ End e) ↔ ((rs : List ResourceRecord) × (length rs ≡ k) × AreRecords s at rs e)
-walks k s at e o = (walked k s at e o, λ w. walks-to k s at e (w .0) o (w .1) (w .2))
+walks k s at e o = (λ f. let w = walk-passes k s at e o f in (recordsFrom k s at, w .0, w .1), λ w. walks-to k s at e (w .0) o (w .1) (w .2))
 
-stopped : (k : ℕ) (s : List ℕ) (at p : ℕ) → Octets s → walkFrom k s at ≡ Stopped p → StopsAt s at k p
-unfolding walkFrom
-stopped zero s at p o f = let z : _≡_ {A = ℕ} 0 1 = cc in absurd (omega arith)
-stopped (suc k) s at p o f = go (recordAt s at) refl (λ r. stopped k s (r .next) p o)
+-- fewer than k records stand one after another, and after them stands none
+abbrev Stops : ℕ → List ℕ → ℕ → List ResourceRecord → ℕ → Type 0
+Stops k s at rs bad = (length rs < k) × AreRecords s at rs bad × ((r : ResourceRecord) → IsRecord s bad r → ⊥)
+
+-- One that stops has passed the records before the first bad one.
+pub walk-passes-some : (k : ℕ) (s : List ℕ) (at p : ℕ) → Octets s → walkFrom k s at ≡ Stopped p → Stops k s at (recordsFrom k s at) p
+unfolding walkFrom recordsFrom
+walk-passes-some zero s at p o f = let z : _≡_ {A = ℕ} 0 1 = cc in absurd (omega arith)
+walk-passes-some (suc k) s at p o f = go (recordAt s at) refl (λ r. walk-passes-some k s (r .next) p o)
   where
     go : (m : RecordRead) → recordAt s at ≡ m
-        → ((r : ResourceRecord) → walkFrom k s (r .next) ≡ Stopped p → StopsAt s (r .next) k p)
-        → StopsAt s at (suc k) p
+        → ((r : ResourceRecord) → walkFrom k s (r .next) ≡ Stopped p → Stops k s (r .next) (recordsFrom k s (r .next)) p)
+        → Stops (suc k) s at (recordsFrom (suc k) s at) p
     go (Good r) g i =
         let w = i r (rw g at f) in
-        record {
-          records = r ∷ w .records;
-          fewer = omega (arith, w .fewer);
-          are = (found s at r o g, w .are);
-          none = w .none;
-        }
+        rw g (omega (arith, w .0), (found s at r o g, w .1), w .2)
     go Bad g i =
         let e : at ≡ p = cc (rw g at f) in
-        record {
-          records = [];
-          fewer = omega arith;
-          are = e;
-          none = subst (λ (x : ℕ). (r : ResourceRecord) → IsRecord s x r → ⊥) e (reads-no-record s at o .0 g);
-        }
+        rw g (omega arith, e, subst (λ (x : ℕ). (r : ResourceRecord) → IsRecord s x r → ⊥) e (reads-no-record s at o .0 g))
 
 stops-there : (k : ℕ) (s : List ℕ) (at p : ℕ) (rs : List ResourceRecord) → Octets s → length rs < k → AreRecords s at rs p
     → ((r : ResourceRecord) → IsRecord s p r → ⊥) → walkFrom k s at ≡ Stopped p
@@ -193,4 +189,9 @@ stops-there (suc k) s at p (r ∷ rs) o l a n =
 
 -- It stops at an offset exactly if fewer records stand one after another up to it, and after them stands none.
 pub stops : (k : ℕ) (s : List ℕ) (at p : ℕ) → Octets s → (walkFrom k s at ≡ Stopped p) ↔ StopsAt s at k p
-stops k s at p o = (stopped k s at p o, λ w. stops-there k s at p (w .records) o (w .fewer) (w .are) (w .none))
+stops k s at p o = (to, λ w. stops-there k s at p (w .records) o (w .fewer) (w .are) (w .none))
+  where
+    to : walkFrom k s at ≡ Stopped p → StopsAt s at k p
+    to f =
+        let w = walk-passes-some k s at p o f in
+        record { records = recordsFrom k s at; fewer = w .0; are = w .1; none = w .2 }

@@ -61,11 +61,11 @@ module _ (s : List ℕ) (p : ℕ) (a : Answer) (rest : List ℕ) (e : drop p s �
       ∙ ap (take (p + beforeData + length (a .octets) - (p + beforeData))) (sym (drop-drop beforeData p s) ∙ ap (drop beforeData) e)
       ∙ take-at (a .octets) rest _ z
 
--- the record that a reader finds at p for an answer, whose owner expands to len octets
-abbrev recordFor : ℕ → ℕ → Answer → ResourceRecord
-recordFor len p a =
+-- the record that a reader finds at p for an answer, whose owner expands to len octets and so many labels
+abbrev recordFor : ℕ → ℕ → ℕ → Answer → ResourceRecord
+recordFor len count p a =
     record {
-      owner = record { next = p + ownerOctets; len = len; pointers = 1 };
+      owner = record { next = p + ownerOctets; len = len; pointers = 1; labels = count };
       rtype = a .rtype;
       class = classIN;
       ttl = replyTTL;
@@ -76,12 +76,12 @@ recordFor len p a =
 
 -- a message in which a name stands behind the header
 module _ (s : List ℕ) (o : Octets s) (len : ℕ) (f : NameAt s headerOctets len) where
-  name-reading : ReadingAt s headerOctets (record { next = headerOctets + len; len = len; pointers = 0 })
+  name-reading : ReadingAt s headerOctets (record { next = headerOctets + len; len = len; pointers = 0; labels = length (f .name) })
   name-reading = plain-reading s headerOctets len f
 
   module _ (p : ℕ) (a : Answer) (rest : List ℕ) (h : headerOctets < p) (e : drop p s ≡ answerOctets a ++ rest) where
     -- its owner is the pointer and then the name's labels
-    owner-there : ReadingAt s p (record { next = p + ownerOctets; len = len; pointers = 1 })
+    owner-there : ReadingAt s p (record { next = p + ownerOctets; len = len; pointers = 1; labels = length (f .name) })
     owner-there =
         let w = word-there s p a rest e p 0 (omega arith) in
         record {
@@ -93,11 +93,12 @@ module _ (s : List ℕ) (o : Octets s) (len : ℕ) (f : NameAt s headerOctets le
           next-is = refl;
           len-is = name-reading .len-is;
           pointers-are = omega (arith, name-reading .pointers-are);
+          labels-are = name-reading .labels-are;
           short = name-reading .short;
           few = omega arith;
         }
 
-    is-record : IsRecord s p (recordFor len p a)
+    is-record : IsRecord s p (recordFor len (length (f .name)) p a)
     is-record =
         let w2 = word-there s p a rest e (p + ownerOctets) ownerOctets refl in
         let w4 = word-there s p a rest e (p + ownerOctets + 2) 4 (omega arith) in
@@ -115,11 +116,13 @@ module _ (s : List ℕ) (o : Octets s) (len : ℕ) (f : NameAt s headerOctets le
           whole = ends-inside s p a rest e;
         }
 
-    is-answer : IsAnswer s p (encode (f .name)) a (recordFor len p a)
+    is-answer : IsAnswer s p (encode (f .name)) a (recordFor len (length (f .name)) p a)
     unfolding owner-there name-reading
     is-answer =
         record {
-          owner = ap (λ (n : ℕ). record { next = p + ownerOctets; len = n; pointers = 1 }) (f .len-is);
+          owner-end = refl;
+          owner-len = f .len-is;
+          pointers = refl;
           name = expands s p _ o owner-there ∙ ap encode (reading-labels s headerOctets len f);
           rtype = refl;
           class = refl;
@@ -135,7 +138,7 @@ module _ (s : List ℕ) (o : Octets s) (len : ℕ) (f : NameAt s headerOctets le
       let q : ℕ = p + beforeData + length (a .octets) in
       let r = answered q end xs (omega arith) (behind-it s p a (answersOctets xs) e) (omega (arith, length-append (answerOctets a) (answersOctets xs))) in
       record {
-        records = recordFor len p a ∷ r .records;
+        records = recordFor len (length (f .name)) p a ∷ r .records;
         are-records = (is-record p a (answersOctets xs) h e, r .are-records);
         are-answers = (is-answer p a (answersOctets xs) h e, r .are-answers);
       }

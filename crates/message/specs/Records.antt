@@ -51,6 +51,15 @@ unfoldable pub walkFrom : ℕ → List ℕ → ℕ → Walked
 walkFrom zero s at = End at
 walkFrom (suc k) s at = onRecord (recordAt s at) (λ r. walkFrom k s (r .next)) at
 
+abbrev pub onPassed : RecordRead → (ResourceRecord → List ResourceRecord) → List ResourceRecord
+onPassed (Good r) rest = r ∷ rest r
+onPassed Bad rest = []
+
+-- the records that it passes: all of them, or those before the first bad one
+unfoldable pub recordsFrom : ℕ → List ℕ → ℕ → List ResourceRecord
+recordsFrom zero s at = []
+recordsFrom (suc k) s at = onPassed (recordAt s at) (λ r. recordsFrom k s (r .next))
+
 -- in plain words: a record stands at an offset
 pub record IsRecord (s : List ℕ) (at : ℕ) (r : ResourceRecord) : Type 0 where
   pub owner : ReadingAt s at (r .owner)

@@ -147,7 +147,9 @@ AreData (a ∷ rest) = IsData a × AreData rest
 -- a record r, read at an offset, is the answer a to a question about a name: its owner is one pointer, which expands to that name; its
 -- class is IN, its TTL 30 seconds
 pub record IsAnswer (s : List ℕ) (at : ℕ) (asked : List ℕ) (a : Answer) (r : ResourceRecord) : Type 0 where
-  pub owner : r .owner ≡ record { next = at + 2; len = length asked; pointers = 1 }
+  pub owner-end : r .owner .next ≡ at + 2
+  pub owner-len : r .owner .len ≡ length asked
+  pub pointers : r .owner .pointers ≡ 1
   pub name : expandedAt s at ≡ asked
   pub rtype : r .rtype ≡ a .rtype
   pub class : r .class ≡ 1

@@ -19,7 +19,7 @@ use Rattle.names.specs.declared.NameRead.the-variants.{Good as GoodName, Bad as
 use Rattle.names.specs.NameWalk.{nameAt}
 use Rattle.names.specs.Names.{Labels, AreLabels, IsName, NameAt, encode}
 use Rattle.names.specs.Folding.{foldedName, sameName}
-use Rattle.names.proofs.Names.{reads-a-name, encode-some, encode-octets}
+use Rattle.names.proofs.Names.{reads-a-name, finds-name, encode-some, encode-octets}
 use Rattle.names.proofs.Folding.{same-names}
 use Rattle.name_table.specs.Bounds.{mostNames, mostRecords, entryHead}
 use Rattle.name_table.specs.Kinds.{kindOf}
@@ -60,7 +60,7 @@ fills-yes : (n : Labels) → IsName n → nameFills (encode n) ≡ true
 unfolding nameFills
 fills-yes n h =
     let own : NameAt (encode n) 0 (length (encode n)) = record { name = n; is-name = h; len-is = refl; octets = take-length (encode n) } in
-    rw (reads-a-name (encode n) 0 (length (encode n)) (encode-octets n h) .1 own) (eq-eqb (length (encode n)) (length (encode n)) refl)
+    rw (finds-name (encode n) 0 (length (encode n)) (encode-octets n h) own) (eq-eqb (length (encode n)) (length (encode n)) refl)
 
 fills-name : (b : List ℕ) → Octets b → nameFills b ≡ true → Filled b
 unfolding nameFills
@@ -69,7 +69,7 @@ fills-name b o e = go (nameAt b 0) refl e
     go : (r : NameRead) → nameAt b 0 ≡ r → lengthIs r (length b) ≡ true → Filled b
     go (GoodName n) q f =
         let l : n .len ≡ length b = eqb-true _ _ f in
-        let m = reads-a-name b 0 (n .len) o .0 q in
+        let m = reads-a-name b 0 n o .0 q .name-at in
         let whole : length (encode (m .name)) ≡ length b = sym (m .len-is) ∙ l in
         record { name = m .name; is-name = m .is-name; octets = sym (take-length b) ∙ ap (λ (i : ℕ). take i b) (sym whole) ∙ m .octets }
     go BadName q f = absurd (let z : _≡_ {A = ℕ} 0 1 = cc in omega arith)

@@ -9,3 +9,5 @@ pub mod Plain
 pub mod SideBySide
 pub mod Comparison
 pub mod ComparisonExamples
+pub mod Depth
+pub mod DepthExamples

@@ -20,7 +20,7 @@ use Rattle.names.specs.declared.RecordNameRead.{RecordNameRead}
 use Rattle.names.specs.declared.RecordNameRead.the-variants.{Good, Bad}
 use Rattle.names.specs.RecordNameWalk.{target, goesOn, atRoot, pastLabel, followed, turnAt, moreLabels, labelsTaken, recordNameFrom, walkAt, turns, recordNameAt, expandedFrom, expandedAt}
 use Rattle.names.proofs.Lists.{stand-drop, from-here, there, here}
-use Rattle.names.proofs.RecordNameWalk.{Met, root, one, jump, wrong, met, turn-root, turn-label, turn-jump, Within, within-start, takes-one, takes-none, more-none, Without, after-turn, no-part, record-name-fits}
+use Rattle.names.proofs.RecordNameWalk.{Met, root, one, jump, wrong, met, turn-root, turn-label, turn-jump, Within, within-start, takes-one, takes-none, more-none, Without, after-turn, no-part}
 use Rattle.names.proofs.Expansion.{expands-good}
 use Rattle.names.proofs.Names.{encode-some, encode-labels}
 
@@ -232,10 +232,16 @@ reads-labels s p run [] a = tt
 reads-labels s p run (label l ∷ r) a = (a .0, reads-labels s (p + 1 + length l) run r (a .2))
 reads-labels s p run (pointer to ∷ r) a = reads-labels s to to r (a .1)
 
-steps-count : (r : List Step) → length r ≡ length (labels r) + pointers r
+steps-count : (r : List Step) → length r ≡ labelSteps r + pointers r
 steps-count [] = omega arith
 steps-count (label l ∷ r) = omega (arith, steps-count r)
 steps-count (pointer to ∷ r) = omega (arith, steps-count r)
+
+-- The label steps of a reading are as many as the labels of its name.
+pub label-steps : (r : List Step) → labelSteps r ≡ length (labels r)
+label-steps [] = refl
+label-steps (label l ∷ r) = omega (arith, label-steps r)
+label-steps (pointer to ∷ r) = label-steps r
 
 -- a reading is in reach of the walk's turns
 readable : (s : List ℕ) (at : ℕ) (r : RecordName) (f : ReadingAt s at r) → Readable turns s (walkAt at) (f .steps)
@@ -245,7 +251,7 @@ readable s at r f =
       room = omega (arith, f .short, f .len-is);
       few = omega (arith, f .few, f .pointers-are);
       fuel = omega
-          (arith, f .short, f .len-is, f .few, f .pointers-are, steps-count (f .steps), encode-labels (labels (f .steps)) (reads-labels s at at (f .steps) (f .reads)));
+          (arith, f .short, f .len-is, f .few, f .pointers-are, steps-count (f .steps), label-steps (f .steps), encode-labels (labels (f .steps)) (reads-labels s at at (f .steps) (f .reads)));
     }
 
 -- The reader tells of a record's name exactly what its reading is.
@@ -349,7 +355,3 @@ pub expands : (s : List ℕ) (at : ℕ) (r : RecordName) → Octets s → (f : R
 expands s at r o f =
     expands-good s at r (reads-a-reading s at r o .1 f)
     ∙ expand-complete turns s (walkAt at) (f .steps) o (readable s at r f)
-
--- A good reading keeps the bounds: at most 255 octets and 16 pointers.
-pub reading-bounds : (s : List ℕ) (at : ℕ) (r : RecordName) → recordNameAt s at ≡ Good r → (r .len ≤ longestName) × (r .pointers ≤ mostPointers)
-reading-bounds s at r e = let f = record-name-fits s at r e in (f .short, f .few)

@@ -244,11 +244,12 @@ expand-turn : (s : List ℕ) (w : Walk) → Within w → expandedHere s w ≡ on
 unfolding expandedFrom
 expand-turn = turned expandedFrom onExpand (λ k s w. refl) same-expanded
 
-pub expand-start : (s : List ℕ) (at : ℕ) (w : Walk) → w ≡ walkAt at → expandedFrom turns s (walkAt at) ≡ expandedHere s w
+pub expand-fuel : (k : ℕ) (s : List ℕ) (w : Walk) → Within w → left w ≤ k → expandedFrom k s w ≡ expandedHere s w
 unfolding expandedFrom
-expand-start s at w e =
-    fuel expandedFrom onExpand (λ k s w. refl) same-expanded turns (left (walkAt at)) s (walkAt at) (within-start at) (omega arith) (omega arith)
-    ∙ ap (expandedHere s) (sym e)
+expand-fuel k s w b h = fuel expandedFrom onExpand (λ k s w. refl) same-expanded k (left w) s w b h (omega arith)
+
+pub expand-start : (s : List ℕ) (at : ℕ) (w : Walk) → w ≡ walkAt at → expandedFrom turns s (walkAt at) ≡ expandedHere s w
+expand-start s at w e = expand-fuel turns s (walkAt at) (within-start at) (omega arith) ∙ ap (expandedHere s) (sym e)
 
 module _ (s : List ℕ) (w : Walk) (b : Within w) where
   pub walk-more : (v : Walk) → turnAt s w ≡ More v → recordNameHere s w ≡ moreLabels (labelsTaken w v) (recordNameHere s v)

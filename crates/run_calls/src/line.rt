@@ -242,6 +242,7 @@ pub fn put_table(text: &mut [u8], at: usize, n: u64, table: &[u8]) -> usize {
 fn put_read(text: &mut [u8], at: usize, r: RecordName, name: &[u8]) -> usize {
     let at = put_field(text, at, b" next=", r.next as u64);
     let at = put_field(text, at, b" pointers=", r.pointers as u64);
+    let at = put_field(text, at, b" labels=", r.labels as u64);
     let at = put(text, at, b" name=");
     let len = r.len;
     put_hex(text, at, octets::part(name, 0, len))

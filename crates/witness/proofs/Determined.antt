@@ -15,7 +15,6 @@ use Rattle.octets.specs.Words.{bigAt, bigOctets}
 use Rattle.octets.proofs.Tests.{split, never}
 use Rattle.octets.proofs.Octets.{part-in, part-past, part-rest}
 use Rattle.octets.proofs.Words.{big-there, big-drop}
-use Rattle.names.specs.declared.RecordName.{RecordName}
 use Rattle.names.specs.Names.{Stand}
 use Rattle.names.specs.Readings.{Step, label, pointer, Reads, after}
 use Rattle.name_table.specs.Entries.{Answer}
@@ -103,11 +102,8 @@ word-then s p q v o e h w =
     sym (take-append-drop 2 (drop p s)) ∙ ap (λ (l : List ℕ). l ++ drop 2 (drop p s)) (sym t) ∙ ap (λ (l : List ℕ). bigOctets v ++ l) d
 
 module _ (s : List ℕ) (at : ℕ) (name : List ℕ) (a : Answer) (r : ResourceRecord) (f : IsRecord s at r) (g : IsAnswer s at name a r) where
-  owner-end : r .owner .next ≡ at + 2
-  owner-end = ap (λ (n : RecordName). n .next) (g .owner)
-
   data-start : r .start ≡ at + 12
-  data-start = omega (arith, f .start, owner-end)
+  data-start = omega (arith, f .start, g .owner-end)
 
   answer-end : r .next ≡ at + 12 + length (a .octets)
   answer-end = omega (arith, f .next, data-start, g .len)
@@ -130,15 +126,15 @@ module _ (s : List ℕ) (at : ℕ) (name : List ℕ) (a : Answer) (r : ResourceR
       let e = answer-end in
       word-then s at (at + 2) (bigAt s at) o refl (omega arith) refl
       ∙ ap (λ (l : List ℕ). bigOctets (bigAt s at) ++ l)
-      (word-then s (at + 2) (at + 4) (a .rtype) o (omega arith) (omega arith) (ap (λ (i : ℕ). bigAt s i) (sym owner-end) ∙ sym (f .rtype) ∙ g .rtype)
+      (word-then s (at + 2) (at + 4) (a .rtype) o (omega arith) (omega arith) (ap (λ (i : ℕ). bigAt s i) (sym (g .owner-end)) ∙ sym (f .rtype) ∙ g .rtype)
       ∙ ap (λ (l : List ℕ). bigOctets (a .rtype) ++ l)
-      (word-then s (at + 4) (at + 6) 1 o (omega arith) (omega arith) (field 2 (at + 4) (omega (arith, owner-end)) ∙ sym (f .class) ∙ g .class)
+      (word-then s (at + 4) (at + 6) 1 o (omega arith) (omega arith) (field 2 (at + 4) (omega (arith, g .owner-end)) ∙ sym (f .class) ∙ g .class)
       ∙ ap (λ (l : List ℕ). bigOctets 1 ++ l)
-      (word-then s (at + 6) (at + 8) 0 o (omega arith) (omega arith) (field 4 (at + 6) (omega (arith, owner-end)) ∙ omega (arith, f .ttl, g .ttl))
+      (word-then s (at + 6) (at + 8) 0 o (omega arith) (omega arith) (field 4 (at + 6) (omega (arith, g .owner-end)) ∙ omega (arith, f .ttl, g .ttl))
       ∙ ap (λ (l : List ℕ). bigOctets 0 ++ l)
-      (word-then s (at + 8) (at + 10) 30 o (omega arith) (omega arith) (field 6 (at + 8) (omega (arith, owner-end)) ∙ omega (arith, f .ttl, g .ttl))
+      (word-then s (at + 8) (at + 10) 30 o (omega arith) (omega arith) (field 6 (at + 8) (omega (arith, g .owner-end)) ∙ omega (arith, f .ttl, g .ttl))
       ∙ ap (λ (l : List ℕ). bigOctets 30 ++ l)
-      (word-then s (at + 10) (at + 12) (length (a .octets)) o (omega arith) (omega arith) (field 8 (at + 10) (omega (arith, owner-end)) ∙ sym (f .len) ∙ g .len)
+      (word-then s (at + 10) (at + 12) (length (a .octets)) o (omega arith) (omega arith) (field 8 (at + 10) (omega (arith, g .owner-end)) ∙ sym (f .len) ∙ g .len)
       ∙ ap (λ (l : List ℕ). bigOctets (length (a .octets)) ++ l) data-then)))))
     where
       field : (k p : ℕ) → p ≡ r .owner .next + k → bigAt s p ≡ bigAt s (r .owner .next + k)
@@ -200,7 +196,7 @@ all-back s at end name [] (r ∷ rs) f g = absurd g
 all-back s at end name (a ∷ xs) [] f g = absurd g
 all-back s at end name (a ∷ xs) (r ∷ rs) f g =
     let o = f .0 .owner in (
-      points-back s at at (o .steps) (o .reads) (sym (o .next-is) ∙ owner-end s at name a r (f .0) (g .0)),
+      points-back s at at (o .steps) (o .reads) (sym (o .next-is) ∙ g .0 .owner-end),
       subst (λ (i : ℕ). PointBack s i xs) (answer-end s at name a r (f .0) (g .0)) (all-back s (r .next) end name xs rs (f .1) (g .1)),
     )
 
@@ -265,7 +261,7 @@ answered-one {s} {t} {at} {end} {from} {to} {name} {other} {xs} o u f g e = (
 same-answer : (s : List ℕ) (at : ℕ) (name other : List ℕ) (a b : Answer) (q r : ResourceRecord) → IsRecord s at q → IsRecord s at r
     → IsAnswer s at name a q → IsAnswer s at other b r → (a ≡ b) × (q .next ≡ r .next)
 same-answer s at name other a b q r f g h k =
-    let o : q .owner .next ≡ r .owner .next = owner-end s at name a q f h ∙ sym (owner-end s at other b r g k) in
+    let o : q .owner .next ≡ r .owner .next = h .owner-end ∙ sym (k .owner-end) in
     let t : a .rtype ≡ b .rtype = sym (h .rtype) ∙ f .rtype ∙ ap (λ (i : ℕ). bigAt s i) o ∙ sym (g .rtype) ∙ k .rtype in
     let l : q .len ≡ r .len = f .len ∙ ap (λ (i : ℕ). bigAt s (i + 8)) o ∙ sym (g .len) in
     let p : q .start ≡ r .start = omega (arith, f .start, g .start) in
