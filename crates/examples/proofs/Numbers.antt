@@ -21,7 +21,7 @@ flag-bits = (refl, refl, refl, refl, refl, refl, refl)
 
 pub numbers-of-names : OfNames
 unfolding folded
-numbers-of-names = (refl, refl, refl, refl, refl, refl, refl, refl, refl)
+numbers-of-names = (refl, refl, refl, refl, refl, refl, refl, refl, refl, refl)
 
 pub numbers-of-addresses : OfAddresses
 unfolding groupOf

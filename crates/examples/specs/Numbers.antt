@@ -8,7 +8,7 @@ use lib.ListN.{replicate}
 use Rattle.octets.specs.Bounds.{ipv4, ipv6, usedBy4, usedBy6, llmnrPort, interfaces}
 use Rattle.octets.specs.Words.{bigAt, littleAt, bigOctets, littleOctets}
 use Rattle.octets.specs.Addresses.{groupOf}
-use Rattle.names.specs.Bounds.{longestLabel, longestName, mostPointers, leastTarget, pointerMark}
+use Rattle.names.specs.Bounds.{longestLabel, longestName, mostLabels, mostPointers, leastTarget, pointerMark}
 use Rattle.names.specs.Folding.{folded}
 use Rattle.name_table.specs.Bounds.{longestTable, mostNames, mostRecords, entryHead}
 use Rattle.name_table.specs.Kinds.{kindOf}
@@ -45,11 +45,11 @@ OfFlags =
     (flagged 0x80 0 .response ≡ true) × (flagged 0x78 0 .opcode ≡ 15) × (flagged 0x04 0 .conflict ≡ true) × (flagged 0x02 0 .truncated ≡ true)
     × (flagged 0x01 0 .tentative ≡ true) × (flagged 0 0x0f .rcode ≡ 15) × (flagged 0 0xf0 ≡ flagged 0 0)
 
--- labels of 1 to 63 octets; at most 255 in all; a pointer has its top two bits set; its target is at least 12; at most 16 are followed;
+-- labels of 1 to 63 octets; at most 255 in all, and so 127 labels; a pointer has its top two bits set; its target is at least 12; at most 16 are followed;
 -- 65..90 are raised by 32, and no other
 abbrev pub OfNames : Type 0
 OfNames =
-    (longestLabel ≡ 63) × (longestName ≡ 255) × (pointerMark ≡ 128 + 64) × (leastTarget ≡ 12) × (mostPointers ≡ 16) × (folded 64 ≡ 64) × (folded 65 ≡ 97)
+    (longestLabel ≡ 63) × (longestName ≡ 255) × (mostLabels ≡ 127) × (pointerMark ≡ 128 + 64) × (leastTarget ≡ 12) × (mostPointers ≡ 16) × (folded 64 ≡ 64) × (folded 65 ≡ 97)
     × (folded 90 ≡ 122) × (folded 91 ≡ 91)
 
 -- family 4 or 6, 4 or 16 octets; 224.0.0.252 and FF02::1:3; port 5355; up to 4 interfaces

@@ -37,13 +37,13 @@ pub fn read_name(s: &[u8], at: usize) -> NameRead
 {
     let mut p = at;
     let mut n: usize = 0;
-    let mut labels: usize = 0;
+    let mut taken: usize = 0;
     while p < s.len() {
         let c = s[p] as usize;
         if c == 0 {
             return NameRead::Good(Name {
                 len: n + 1,
-                labels: labels,
+                labels: taken,
             });
         }
         if Name::LABEL < c {
@@ -54,7 +54,7 @@ pub fn read_name(s: &[u8], at: usize) -> NameRead
         }
         n = n + 1 + c;
         p = p + 1 + c;
-        labels = labels + 1;
+        taken = taken + 1;
     }
     NameRead::Bad
 }

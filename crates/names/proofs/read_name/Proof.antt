@@ -13,10 +13,10 @@ use Rattle.names.proofs.read_name.Statement.{statement}
 use Rattle.names.proofs.read_name.Tie as tie
 
 abbrev Inv-loop : tie.InvT-loop
-Inv-loop s at p₀ n₀ labels₀ p n labels = (n < longestName) × (labels ≤ n) × (nameAt s at ≡ moreLabels labels (nameHere s p n))
+Inv-loop s at p₀ n₀ taken₀ p n taken = (n < longestName) × (taken ≤ n) × (nameAt s at ≡ moreLabels taken (nameHere s p n))
 
 abbrev μ-loop : tie.MeasureT-loop
-μ-loop s at p₀ n₀ labels₀ p n labels = longestName - n
+μ-loop s at p₀ n₀ taken₀ p n taken = longestName - n
 
 -- the root is no label
 ends : (l len : ℕ) → moreLabels l (Good (record { len = len; labels = 0 })) ≡ Good (record { len = len; labels = l })
@@ -69,8 +69,8 @@ add-p c = search needs
 add-p-2 : tie.Need-add-p-2 Inv-loop μ-loop
 add-p-2 c = search needs
 
-add-labels : tie.Need-add-labels Inv-loop μ-loop
-add-labels c = search needs
+add-taken : tie.Need-add-taken Inv-loop μ-loop
+add-taken c = search needs
 
 loop-less : tie.Need-loop-less Inv-loop μ-loop
 loop-less c = search needs
@@ -80,7 +80,7 @@ loop-again c =
     let w = c .before .before .before .before .before .loop in (
       search needs,
       search needs,
-      name-counts _ _ (w .p) (w .n) (w .labels) (w .inv .0) (w .inv .2) (c .before .before .before .before .loop-test .taken) (c .before .before .if1 .left) (c .before .if2 .left) (c .if3 .left),
+      name-counts _ _ (w .p) (w .n) (w .taken) (w .inv .0) (w .inv .2) (c .before .before .before .before .loop-test .taken) (c .before .before .if1 .left) (c .before .if2 .left) (c .if3 .left),
     )
 
 returns-4 : tie.Need-returns-4 Inv-loop μ-loop
@@ -107,7 +107,7 @@ read-name-spec =
     add-n-2
     add-p
     add-p-2
-    add-labels
+    add-taken
     loop-less
     loop-again
     returns-4)
