@@ -2,6 +2,7 @@ pub mod Headers
 pub mod Questions
 pub mod Records
 pub mod Owners
+pub mod OwnersExamples
 pub mod Query
 pub mod Reply
 pub mod ReplyLaws

@@ -1,5 +1,5 @@
 -- How deep the owner names of a message's answers can be: together at most ANCOUNT times 127 labels, and ANCOUNT times 16 pointers.
-use Prim.Native.Nat.{ℕ, zero, suc, _+_, _*_, _≤_}
+use Prim.Native.Nat.{ℕ, zero, suc}
 use mathlib.Core.Path.{_≡_, refl}
 use mathlib.Core.List.{List, [], _∷_}
 use native.Mathlib.Omega.{arith}

@@ -20,7 +20,8 @@ use Rattle.names.specs.RecordNameWalk.{target, atRoot, pastLabel, follow
 use Rattle.names.specs.Turns.{turnsAfter, turnsFrom, mostTurns}
 use Rattle.names.proofs.NameWalk.{name-fuel, name-fits, name-counted}
 use Rattle.names.proofs.Names.{encode-labels, same-labels}
-use Rattle.names.proofs.RecordNameWalk.{Met, root, one, jump, wrong, met, turn-root, turn-label, turn-jump, Within, within-start, left, onward, takes-one, takes-none, after-turn, walk-fuel, expand-fuel, record-name-fits}
+use Rattle.names.proofs.Turns.{Met, root, one, jump, wrong, met, turn-root, turn-label, turn-jump, takes-one, takes-none, after-turn}
+use Rattle.names.proofs.RecordNameWalk.{Within, within-start, left, onward, walk-fuel, expand-fuel, record-name-fits}
 use Rattle.names.proofs.Readings.{label-steps, reading-is-name, reads-a-reading, expands}
 
 -- a name's octets are at most 255, two or more for each label, and one; so its labels are at most 127

@@ -1,7 +1,7 @@
 -- The bounds on deep names are reached, by computation.
 use Prim.Native.Nat.{ℕ, suc, zero, _+_, _/_, _%_}
 use mathlib.Core.Path.{_≡_, refl}
-use mathlib.Core.List.{List, [], _∷_, _++_}
+use mathlib.Core.List.{List, [], _∷_}
 use Rattle.names.specs.Bounds.{longestName, mostLabels, mostPointers}
 use Rattle.names.specs.declared.NameRead.the-variants.{Good as GoodName}
 use Rattle.names.specs.declared.RecordNameRead.the-variants.{Good}

@@ -1,5 +1,6 @@
 pub mod Lists
 pub mod NameWalk
+pub mod Turns
 pub mod RecordNameWalk
 pub mod Expansion
 pub mod Names

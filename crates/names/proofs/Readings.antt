@@ -20,7 +20,8 @@ use Rattle.names.specs.declared.RecordNameRead.{RecordNameRead}
 use Rattle.names.specs.declared.RecordNameRead.the-variants.{Good, Bad}
 use Rattle.names.specs.RecordNameWalk.{target, goesOn, atRoot, pastLabel, followed, turnAt, moreLabels, labelsTaken, recordNameFrom, walkAt, turns, recordNameAt, expandedFrom, expandedAt}
 use Rattle.names.proofs.Lists.{stand-drop, from-here, there, here}
-use Rattle.names.proofs.RecordNameWalk.{Met, root, one, jump, wrong, met, turn-root, turn-label, turn-jump, Within, within-start, takes-one, takes-none, more-none, Without, after-turn, no-part}
+use Rattle.names.proofs.Turns.{Met, root, one, jump, wrong, met, turn-root, turn-label, turn-jump, takes-one, takes-none, more-none, Without, after-turn}
+use Rattle.names.proofs.RecordNameWalk.{Within, within-start, no-part}
 use Rattle.names.proofs.Expansion.{expands-good}
 use Rattle.names.proofs.Names.{encode-some, encode-labels}
 

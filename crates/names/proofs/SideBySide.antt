@@ -23,7 +23,8 @@ use Rattle.names.specs.declared.RecordNameRead.the-variants.{Good, Bad}
 use Rattle.names.specs.RecordNameWalk.{target, pastLabel, followed, turnAt, moreLabels, labelsTaken, walkAt, turns, recordNameFrom, recordNameAt, expandedFrom, expandedAt, ifGood}
 use Rattle.names.specs.Comparison.{isGood, sameRecordName, isEnd, oneMore, endsFrom}
 use Rattle.names.proofs.Lists.{from-here}
-use Rattle.names.proofs.RecordNameWalk.{Met, root, one, jump, wrong, met, turn-root, turn-label, turn-jump, Within, within-start, starts-within, left, recordNameHere, expandedHere, onward, no-part, after-turn, walk-fuel, walk-more, walk-end, walk-wrong, expand-start, expand-more, expand-end, ended}
+use Rattle.names.proofs.Turns.{Met, root, one, jump, wrong, met, turn-root, turn-label, turn-jump, after-turn}
+use Rattle.names.proofs.RecordNameWalk.{Within, within-start, starts-within, left, recordNameHere, expandedHere, onward, no-part, walk-fuel, walk-more, walk-end, walk-wrong, expand-start, expand-more, expand-end, ended}
 use Rattle.names.proofs.Folding.{folded-low, unequal-lengths}
 
 -- the names from two walks on

@@ -218,11 +218,10 @@ fn labels_after(labels: usize, w: Walk, v: Walk) -> usize
     requires { ⌜ labels < longestName ⌝ }
     ensures { λ r. ⌜ r ≡ labels + labelsTaken w v ⌝ }
 {
-    if v.pointers == w.pointers {
-        labels + 1
-    } else {
-        labels
+    if v.pointers != w.pointers {
+        return labels;
     }
+    labels + 1
 }
 
 // Reads on from a walk to the end of the name; the labels are those from there on.

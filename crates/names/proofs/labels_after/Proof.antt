@@ -1,20 +1,18 @@
 -- `names::labels_after` meets its contract.
-use Prim.Native.Nat.{_+_}
-use mathlib.Core.Path.{_≡_}
 use native.Mathlib.Omega.{arith}
 use borrow.Author.Needs.{needs}
 use borrow.Author.Tests.{eq-eqb, ne-eqb}
 use Rattle.names.proofs.labels_after.Statement.{statement}
 use Rattle.names.proofs.labels_after.Tie as tie
 
+returns : tie.Need-returns
+returns c = rw (ne-eqb _ _ (c .if1 .taken)) (omega arith)
+
 add-result : tie.Need-add-result
 add-result c = search needs
 
-returns : tie.Need-returns
-returns c = simp (eq-eqb _ _ (c .if1 .taken))
-
 returns-2 : tie.Need-returns-2
-returns-2 c = rw (ne-eqb _ _ (c .if1 .left)) (omega arith)
+returns-2 c = rw (eq-eqb _ _ (c .if1 .left))
 
 pub labels-after-spec : {M : Type 1} → statement M
-labels-after-spec = tie.close (tie.spec add-result returns returns-2)
+labels-after-spec = tie.close (tie.spec returns add-result returns-2)

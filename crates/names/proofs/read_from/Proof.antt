@@ -7,7 +7,8 @@ use borrow.Author.Needs.{needs}
 use Rattle.names.specs.declared.RecordName.{RecordName}
 use Rattle.names.specs.declared.RecordNameRead.the-variants.{Good}
 use Rattle.names.specs.RecordNameWalk.{moreLabels, recordNameFrom, turns}
-use Rattle.names.proofs.RecordNameWalk.{Within, left, recordNameHere, more-none, walk-fuel, onward, root-none, walk-counts, walk-end, walk-wrong}
+use Rattle.names.proofs.Turns.{more-none, root-none}
+use Rattle.names.proofs.RecordNameWalk.{Within, left, recordNameHere, walk-fuel, onward, walk-counts, walk-end, walk-wrong}
 use Rattle.names.proofs.read_from.Statement.{statement}
 use Rattle.names.proofs.read_from.Tie as tie
 
