@@ -25,13 +25,13 @@ use Rattle.names.proofs.RecordNameWalk.{Within, within-start, left, onw
 use Rattle.names.proofs.Readings.{label-steps, reading-is-name, reads-a-reading, expands}
 
 -- a name's octets are at most 255, two or more for each label, and one; so its labels are at most 127
-pub record NameDepth (len labels : ℕ) : Type 0 where
-  pub octets : 2 * labels + 1 ≤ len
+pub record NameDepth (len count : ℕ) : Type 0 where
+  pub octets : 2 * count + 1 ≤ len
   pub short : len ≤ longestName
-  pub few : labels ≤ mostLabels
+  pub few : count ≤ mostLabels
 
-depth-of : (len labels : ℕ) → labels + labels + 1 ≤ len → len ≤ longestName → NameDepth len labels
-depth-of len labels h g = record { octets = omega arith; short = g; few = omega arith }
+depth-of : (len count : ℕ) → count + count + 1 ≤ len → len ≤ longestName → NameDepth len count
+depth-of len count h g = record { octets = omega arith; short = g; few = omega arith }
 
 -- Any name without pointers that can be read has at most 127 labels.
 pub name-depth : (s : List ℕ) (at : ℕ) (r : Name) → nameAt s at ≡ GoodName r → NameDepth (r .len) (r .labels)
