@@ -79,11 +79,22 @@ turns-left (suc k) s w b = go (turnAt s w) refl (turns-left k s)
     go (End r) e i = omega arith
     go Wrong e i = omega arith
 
--- Any reading takes at most 127 + 16 + 1 turns.
+-- It takes no more than it may,
+pub given-turns : (k : ℕ) (s : List ℕ) (w : Walk) → turnsFrom k s w ≤ k
+unfolding turnsFrom
+given-turns zero s w = omega arith
+given-turns (suc k) s w = go (turnAt s w) (given-turns k s)
+  where
+    go : (t : Turn) → ((v : Walk) → turnsFrom k s v ≤ k) → 1 + turnsAfter t (turnsFrom k s) ≤ suc k
+    go (More v) i = omega (arith, i v)
+    go (End r) i = omega arith
+    go Wrong i = omega arith
+
+-- and at most 127 + 16 + 1.
 pub few-turns : (k : ℕ) (s : List ℕ) (at : ℕ) → turnsFrom k s (walkAt at) ≤ mostTurns
 few-turns k s at = omega (arith, turns-left k s (walkAt at) (within-start at))
 
--- So from these on any number of turns gives the same reading, and the same expanded name,
+-- So from these on any number of turns gives the same reading, and the same expanded name;
 pub enough-turns : (k : ℕ) (s : List ℕ) (at : ℕ) → mostTurns ≤ k → recordNameFrom k s (walkAt at) ≡ recordNameAt s at
 enough-turns k s at h =
     let b = within-start at in
@@ -94,7 +105,7 @@ enough-expanded k s at h =
     let b = within-start at in
     expand-fuel k s (walkAt at) b (omega arith) ∙ sym (expand-fuel turns s (walkAt at) b (omega arith))
 
--- and without pointers 127 + 1.
+-- without pointers it is so from 127 + 1 on.
 pub enough-name : (k : ℕ) (s : List ℕ) (at : ℕ) → mostLabels + 1 ≤ k → nameFrom k s at 0 ≡ nameAt s at
 enough-name k s at h = name-fuel k longestName s at 0 (omega arith) (omega arith) (omega arith)
 
