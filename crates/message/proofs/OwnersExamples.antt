@@ -1,9 +1,10 @@
 -- Labels and pointers of the owner names of two messages' answers, by computation.
-use Prim.Native.Nat.{ℕ, suc, zero, _+_, _*_}
+use Prim.Native.Nat.{ℕ, _*_}
 use mathlib.Core.Path.{_≡_, refl}
 use mathlib.Core.List.{List, [], _∷_, _++_}
 use Rattle.names.specs.Bounds.{mostLabels}
 use Rattle.names.specs.RecordNameWalk.{turnAt, recordNameFrom}
+use Rattle.names.proofs.DepthExamples.{labelled, chained}
 use Rattle.message.specs.declared.Walked.the-variants.{Stopped}
 use Rattle.message.specs.Header.{headerOf}
 use Rattle.message.specs.Records.{recordAt, walkFrom, recordsFrom}
@@ -21,19 +22,9 @@ typed = 0 ∷ 1 ∷ 0 ∷ 1 ∷ []
 abbrev pointed : ℕ → ℕ → List ℕ → List ℕ
 pointed to len octets = 0xC0 ∷ to ∷ (typed ++ (0 ∷ 0 ∷ 0 ∷ 30 ∷ 0 ∷ len ∷ octets))
 
--- n labels, then what follows
-abbrev labelled : ℕ → List ℕ → List ℕ
-labelled zero rest = rest
-labelled (suc n) rest = 1 ∷ 120 ∷ labelled n rest
-
 -- a question about a name of 127 labels, which ends at 271, and two answers about it
 abbrev wide : List ℕ
 wide = header 2 ++ labelled 127 (0 ∷ (typed ++ pointed 12 4 (192 ∷ 0 ∷ 2 ∷ 17 ∷ []) ++ pointed 12 4 (192 ∷ 0 ∷ 2 ∷ 18 ∷ [])))
-
--- n pointers from offset `from` on, all below 256: the first to `to`, each other to the one before it
-abbrev chained : ℕ → ℕ → ℕ → List ℕ
-chained zero to from = []
-chained (suc n) to from = 0xC0 ∷ to ∷ chained n from (from + 2)
 
 -- A question about x, which ends at 19; an answer at 19 whose data, from 31 on, are 15 pointers, the last at 59; one at 61 whose owner points there;
 -- and of a third, at 73, the first octet only.

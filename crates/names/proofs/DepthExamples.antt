@@ -10,12 +10,12 @@ use Rattle.names.specs.RecordNameWalk.{turnAt, recordNameFrom, walkAt, t
 use Rattle.names.specs.Turns.{turnsFrom, mostTurns}
 
 -- n times the label x, then what follows
-abbrev labelled : ℕ → List ℕ → List ℕ
+abbrev pub labelled : ℕ → List ℕ → List ℕ
 labelled zero rest = rest
 labelled (suc n) rest = 1 ∷ 120 ∷ labelled n rest
 
 -- n pointers from offset `from` on: the first to offset `to`, each other to the one before it
-abbrev chained : ℕ → ℕ → ℕ → List ℕ
+abbrev pub chained : ℕ → ℕ → ℕ → List ℕ
 chained zero to from = []
 chained (suc n) to from = (0xC0 + to / 256) ∷ to % 256 ∷ chained n from (from + 2)
 
