@@ -177,7 +177,7 @@ fn pointer_turn(s: &[u8], w: Walk) -> Turn
     })
 }
 
-// One turn of reading: the zero octet, a label, a pointer, or none of these.
+// One turn of reading: the zero octet, which is no label, a label, a pointer, or none of these.
 fn next_turn(s: &[u8], w: Walk) -> Turn
     requires { ⌜ w .len < longestName ⌝ }
     ensures { λ r. ⌜ r ≡ turnAt (now (s .entry)) w ⌝ }
