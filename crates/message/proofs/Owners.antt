@@ -5,7 +5,8 @@ use mathlib.Core.List.{List, [], _∷_}
 use native.Mathlib.Omega.{arith}
 use lib.ListN.{length}
 use Rattle.octets.specs.Octets.{Octets}
-use Rattle.names.proofs.Depth.{Depth, reading-depth}
+use Rattle.names.specs.Depth.{Depth}
+use Rattle.names.proofs.Depth.{reading-depth}
 use Rattle.message.specs.Header.{headerOf}
 use Rattle.message.specs.declared.ResourceRecord.{ResourceRecord}
 use Rattle.message.specs.declared.RecordRead.{RecordRead}

@@ -1,11 +1,11 @@
 -- How deep a name can be: at most 127 labels and 16 pointers, and so at most 144 turns of its reader.
-use Prim.Native.Nat.{ℕ, suc, zero, _+_, _*_, _≤_}
+use Prim.Native.Nat.{ℕ, suc, zero, _+_, _≤_}
 use mathlib.Core.Path.{_≡_, refl, sym, ap, _∙_}
 use mathlib.Core.List.{List}
 use native.Mathlib.Omega.{arith}
 use lib.ListN.{length}
 use Rattle.octets.specs.Octets.{Octets, octetAt}
-use Rattle.names.specs.Bounds.{longestName, mostLabels, mostPointers}
+use Rattle.names.specs.Bounds.{longestName, mostLabels}
 use Rattle.names.specs.Names.{Labels, IsName, encode}
 use Rattle.names.specs.Readings.{labels, ReadingAt}
 use Rattle.names.specs.declared.Name.{Name}
@@ -17,18 +17,12 @@ use Rattle.names.specs.declared.RecordName.{RecordName}
 use Rattle.names.specs.declared.RecordNameRead.the-variants.{Good}
 use Rattle.names.specs.NameWalk.{nameFrom, nameAt}
 use Rattle.names.specs.RecordNameWalk.{target, atRoot, pastLabel, followed, turnAt, recordNameFrom, walkAt, turns, recordNameAt, expandedFrom, expandedAt}
-use Rattle.names.specs.Turns.{turnsAfter, turnsFrom, mostTurns}
+use Rattle.names.specs.Depth.{NameDepth, Depth, turnsAfter, turnsFrom, mostTurns}
 use Rattle.names.proofs.NameWalk.{name-fuel, name-fits, name-counted}
 use Rattle.names.proofs.Names.{encode-labels, same-labels}
 use Rattle.names.proofs.Turns.{Met, root, one, jump, wrong, met, turn-root, turn-label, turn-jump, takes-one, takes-none, after-turn}
 use Rattle.names.proofs.RecordNameWalk.{Within, within-start, left, onward, walk-fuel, expand-fuel, record-name-fits}
 use Rattle.names.proofs.Readings.{label-steps, reading-is-name, reads-a-reading, expands}
-
--- a name's octets are at most 255, two or more for each label, and one; so its labels are at most 127
-pub record NameDepth (len count : ℕ) : Type 0 where
-  pub octets : 2 * count + 1 ≤ len
-  pub short : len ≤ longestName
-  pub few : count ≤ mostLabels
 
 depth-of : (len count : ℕ) → count + count + 1 ≤ len → len ≤ longestName → NameDepth len count
 depth-of len count h g = record { octets = omega arith; short = g; few = omega arith }
@@ -36,10 +30,6 @@ depth-of len count h g = record { octets = omega arith; short = g; few = omega a
 -- Any name without pointers that can be read has at most 127 labels.
 pub name-depth : (s : List ℕ) (at : ℕ) (r : Name) → nameAt s at ≡ GoodName r → NameDepth (r .len) (r .labels)
 name-depth s at r e = depth-of (r .len) (r .labels) (name-counted s at r e) (name-fits s at r e .0)
-
-pub record Depth (r : RecordName) : Type 0 where
-  pub name : NameDepth (r .len) (r .labels)
-  pub few-pointers : r .pointers ≤ mostPointers
 
 -- Any record's name that can be read has at most 127 labels and 16 pointers,
 pub depth : (s : List ℕ) (at : ℕ) (r : RecordName) → recordNameAt s at ≡ Good r → Depth r

@@ -7,7 +7,7 @@ use Rattle.names.specs.declared.NameRead.the-variants.{Good as GoodName}
 use Rattle.names.specs.declared.RecordNameRead.the-variants.{Good}
 use Rattle.names.specs.NameWalk.{nameFrom, nameAt}
 use Rattle.names.specs.RecordNameWalk.{turnAt, recordNameFrom, walkAt, turns, recordNameAt}
-use Rattle.names.specs.Turns.{turnsFrom, mostTurns}
+use Rattle.names.specs.Depth.{turnsFrom, mostTurns}
 
 -- n times the label x, then what follows
 abbrev pub labelled : ℕ → List ℕ → List ℕ

@@ -5,4 +5,4 @@ pub mod Readings
 pub mod NameWalk
 pub mod RecordNameWalk
 pub mod Comparison
-pub mod Turns
+pub mod Depth
