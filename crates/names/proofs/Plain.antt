@@ -8,11 +8,11 @@ use lib.Seq.{take-at}
 use Rattle.octets.specs.Octets.{Octets}
 use Rattle.names.specs.Bounds.{longestName}
 use Rattle.names.specs.Names.{Labels, AreLabels, encode, NameAt}
-use Rattle.names.specs.Readings.{label, Reads, labels, labelSteps, pointers, after, ReadingAt}
+use Rattle.names.specs.Readings.{label, Reads, labels, pointers, after, ReadingAt}
 use Rattle.names.specs.declared.RecordNameRead.the-variants.{Good}
 use Rattle.names.specs.RecordNameWalk.{recordNameAt}
 use Rattle.names.proofs.Lists.{stand-drop, behind, past}
-use Rattle.names.proofs.Readings.{reads-a-reading}
+use Rattle.names.proofs.Readings.{label-steps, reads-a-reading}
 
 -- a name's labels, each a step
 plain-steps : (n : Labels) (s : List ℕ) (p run : ℕ) (rest : List ℕ) → AreLabels n → drop p s ≡ encode n ++ rest → Reads s p run (map label n)
@@ -28,10 +28,6 @@ plain-steps (l ∷ n) s p run rest a e =
 plain-labels : (n : Labels) → labels (map label n) ≡ n
 plain-labels [] = refl
 plain-labels (l ∷ n) = ap (λ (t : Labels). l ∷ t) (plain-labels n)
-
-plain-count : (n : Labels) → labelSteps (map label n) ≡ length n
-plain-count [] = refl
-plain-count (l ∷ n) = omega (arith, plain-count n)
 
 plain-pointers : (n : Labels) → pointers (map label n) ≡ 0
 plain-pointers [] = refl
@@ -53,7 +49,7 @@ module _ (s : List ℕ) (at len : ℕ) (f : NameAt s at len) where
         next-is = omega (arith, plain-after n at, f .len-is);
         len-is = f .len-is ∙ ap (λ (m : Labels). length (encode m)) (sym (plain-labels n));
         pointers-are = sym (plain-pointers n);
-        labels-are = sym (plain-count n);
+        labels-are = sym (label-steps (map label n) ∙ ap length (plain-labels n));
         short = h;
         few = omega arith;
       }
