@@ -76,6 +76,7 @@ fn refuse(refusal: Refusal) -> MessageRead
 {
     let question = Question {
         name: 0,
+        labels: 0,
         qtype: 0,
         class: 0,
         end: 0,
@@ -197,6 +198,7 @@ fn refuse_datagram(refusal: Refusal) -> Datagram
     };
     let question = Question {
         name: 0,
+        labels: 0,
         qtype: 0,
         class: 0,
         end: 0,

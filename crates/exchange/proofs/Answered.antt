@@ -66,7 +66,7 @@ module _ (l : Lookup) (h : Host) (a : HostArrival) (w : Asked l h a) where
   datagram-is : a .datagram ≡ queryFor (l .id) name (l .qtype)
   datagram-is = w .query ∙ sym (query-is (l .id) (nameOf l) (l .qtype)) ∙ ap (λ (x : List ℕ). queryFor (l .id) x (l .qtype)) (w .name .octets-are)
 
-  question-is : q ≡ record { name = length name; qtype = l .qtype; class = 1; end = 12 + length name + 4 }
+  question-is : q ≡ record { name = length name; labels = length (w .name .name); qtype = l .qtype; class = 1; end = 12 + length name + 4 }
   question-is =
       ap questionOr
       (sym (w .replies .query .arrives .question)

@@ -13,6 +13,7 @@ use Rattle.octets.proofs.Tests.{split}
 use Rattle.octets.proofs.Octets.{part-in, length-part}
 use Rattle.octets.proofs.Splice.{front}
 use Rattle.names.specs.Names.{Labels, IsName, encode}
+use Rattle.names.proofs.Names.{reads-alone}
 use Rattle.name_table.specs.Check.{Held, good, checkTable, noName, namesIn, nameIn}
 use Rattle.name_table.specs.Entries.{Answer}
 use Rattle.name_table.proofs.Held.{held-name}
@@ -64,7 +65,7 @@ check-read id n h =
     query-question id 0 q ∙ append-assoc x (bigOctets typeANY) (bigOctets classIN) in
     record {
       header-is = ap headerAt (sym e) ∙ query-header id 0 q [];
-      question-is = ap (λ (u : List ℕ). questionAt u headerOctets) (sym e) ∙ query-asks id 0 n typeANY classIN [] h;
+      question-is = rw (reads-alone n h) (ap (λ (u : List ℕ). questionAt u headerOctets) (sym e) ∙ query-asks id 0 n typeANY classIN [] h);
       name-is = behind b x (bigOctets typeANY ++ bigOctets classIN) (headerOctets + length x) d (omega (arith, query-length id 0 q)) refl;
     }
 
@@ -146,8 +147,8 @@ module _ (h : Host) (a : Arrival) (o : Octets (a .datagram)) (hs : List Held) (q
   asked-short : headerOctets + length (questionIn a q) ≤ replyLimit
   asked-short = omega (arith, asked-length, is-question .name .len-is, is-question .name .is-name .short)
 
-  same-question : Good (record { name = q .name; qtype = q .qtype; class = q .class; end = headerOctets + q .name + 4 }) ≡ Good q
-  same-question = ap (λ (e : ℕ). Good (record { name = q .name; qtype = q .qtype; class = q .class; end = e })) (sym (is-question .end))
+  same-question : Good (record { name = q .name; labels = q .labels; qtype = q .qtype; class = q .class; end = headerOctets + q .name + 4 }) ≡ Good q
+  same-question = ap (λ (e : ℕ). Good (record { name = q .name; labels = q .labels; qtype = q .qtype; class = q .class; end = e })) (sym (is-question .end))
 
   -- its name stands after the header of every message that has the question there
   name-copied : (b r : List ℕ) → drop headerOctets b ≡ questionIn a q ++ r → headerOctets ≤ length b

@@ -5,6 +5,7 @@ use mathlib.Core.List.{List}
 use mathlib.Core.Bool.{Bool, false, cond}
 use lib.ListN.{length}
 use Rattle.octets.specs.Octets.{octetAt, partOf}
+use Rattle.names.specs.NameWalk.{labelsOf, nameAt}
 use Rattle.message.specs.Bounds.{headerOctets, classIN, typeANY}
 use Rattle.message.specs.declared.Header.{Header}
 use Rattle.message.specs.declared.Question.{Question}
@@ -35,11 +36,11 @@ queryHeader id =
       additionals = 0;
     }
 
--- b is read as the query of a check for a name: type 255, class 1
+-- b is read as the query of a check for a name, with the labels that are read in its octets: type 255, class 1
 pub record ReadAsCheck (b : List ℕ) (id : ℕ) (name : List ℕ) : Type 0 where
   pub header-is : headerAt b ≡ GoodHeader (queryHeader id)
   pub question-is : questionAt b headerOctets
-      ≡ Good (record { name = length name; qtype = typeANY; class = classIN; end = headerOctets + length name + 4 })
+      ≡ Good (record { name = length name; labels = labelsOf (nameAt name 0); qtype = typeANY; class = classIN; end = headerOctets + length name + 4 })
   pub name-is : partOf b headerOctets (headerOctets + length name) ≡ name
 
 -- b is read as a defence: a query with the call's ID and the question q of the notification

@@ -15,8 +15,8 @@ use Rattle.octets.proofs.Tests.{never, both, either-is, same-number, below-numb
 use Rattle.names.specs.Names.{Labels, encode}
 use Rattle.names.specs.declared.NameRead.{NameRead}
 use Rattle.names.specs.declared.NameRead.the-variants.{Good, Bad}
-use Rattle.names.specs.NameWalk.{nameAt}
-use Rattle.names.proofs.Names.{encode-some, reads-a-name, finds-name}
+use Rattle.names.specs.NameWalk.{labelsOf, nameAt}
+use Rattle.names.proofs.Names.{encode-some, reads-a-name, reads-alone}
 use Rattle.names.proofs.Folding.{same-name-is}
 use Rattle.message.specs.declared.Question.{Question}
 use Rattle.message.specs.declared.Walked.{Walked}
@@ -24,13 +24,15 @@ use Rattle.message.specs.declared.Walked.the-variants.{End, Stopped}
 use Rattle.message.specs.Records.{walkFrom}
 use Rattle.message.proofs.Records.{stops}
 use Rattle.host.specs.Early.{noInterface, badClock}
+use Rattle.lookup.specs.SeveralLabels.{severalLabels}
 use Rattle.lookup.specs.Start.{badName}
 use Rattle.lookup.specs.Receive.{Arrival, header, waits, awaits, isStopped}
-use Rattle.lookup.specs.Refusals.{IsUnused, IsToLookUp, Waits, IsAwaited, IsCutShort}
+use Rattle.lookup.specs.Refusals.{IsUnused, IsToLookUp, IsReverse, HasSeveral, Waits, IsAwaited, IsCutShort}
 use Rattle.lookup.specs.ExactlyWhen.{IsUsed}
 use Rattle.lookup.specs.declared.Phase.{Phase}
 use Rattle.lookup.specs.declared.Phase.the-variants.{Asking, Collecting, Ended}
 use Rattle.lookup.specs.declared.Lookup.{Lookup}
+use Rattle.lookup.proofs.SeveralLabels.{several-is, may-ask-is}
 
 -- ---- the interface and the clock
 
@@ -61,6 +63,12 @@ root-alone : (n : Labels) → length (encode n) ≡ 1 → n ≡ []
 root-alone [] e = refl
 root-alone (l ∷ n) e = absurd (omega (arith, encode-some n, length-append l (encode n)))
 
+-- a name to be looked up is read whole
+read-is : (octets : List ℕ) (w : IsToLookUp octets) → nameAt octets 0 ≡ Good (record { len = length octets; labels = length (w .name) })
+read-is octets w =
+    subst (λ (x : List ℕ). nameAt x 0 ≡ Good (record { len = length x; labels = length (w .name) })) (sym (w .octets-are))
+    (reads-alone (w .name) (w .is-name))
+
 pub name-is : (octets : List ℕ) → Octets octets → (badName octets (nameAt octets 0) ≡ false) ↔ IsToLookUp octets
 name-is octets o = (λ b. to (nameAt octets 0) refl b, from)
   where
@@ -81,13 +89,23 @@ name-is octets o = (λ b. to (nameAt octets 0) refl b, from)
     from : IsToLookUp octets → badName octets (nameAt octets 0) ≡ false
     from w =
         let n : Labels = w .name in
-        let s : take (length (encode n)) octets ≡ encode n =
-        subst (λ (x : List ℕ). take (length (encode n)) x ≡ encode n) (sym (w .octets-are)) (take-length (encode n)) in
-        let e : nameAt octets 0 ≡ Good (record { len = length octets; labels = length n }) =
-        finds-name octets 0 (length octets) o (record { name = n; is-name = w .is-name; len-is = ap length (w .octets-are); octets = s }) in
         let d : eqb (length octets) 1 ≡ false = ne-eqb _ _ (λ x. w .not-root (root-alone n (sym (ap length (w .octets-are)) ∙ x))) in
         let f : not (eqb (length octets) (length octets)) ≡ false = not-not _ .1 (eq-eqb (length octets) (length octets) refl) in
-        rw e (neither _ _ .1 (d, f))
+        rw (read-is octets w) (neither _ _ .1 (d, f))
+
+-- what is said of its labels, of a name to be looked up
+module _ (permission : Bool) (octets : List ℕ) (w : IsToLookUp octets) where
+  several-here : severalLabels permission octets (labelsOf (nameAt octets 0)) ≡ severalLabels permission (encode (w .name)) (length (w .name))
+  several-here =
+      ap (λ (r : NameRead). severalLabels permission octets (labelsOf r)) (read-is octets w)
+      ∙ ap (λ (x : List ℕ). severalLabels permission x (length (w .name))) (w .octets-are)
+
+  pub name-several : (severalLabels permission octets (labelsOf (nameAt octets 0)) ≡ true) ↔ HasSeveral permission (w .name)
+  name-several = rw several-here (several-is (w .name) (w .is-name .labels) permission)
+
+  pub name-permitted : (severalLabels permission octets (labelsOf (nameAt octets 0)) ≡ false)
+      ↔ ((length (w .name) < 2) ⊎ (permission ≡ true) ⊎ IsReverse (w .name))
+  name-permitted = rw several-here (may-ask-is (w .name) (w .is-name .labels) permission)
 
 -- ---- the response that is awaited
 

@@ -2,6 +2,7 @@
 use Prim.Native.Nat.{ℕ, _+_, _<_, _≤_}
 use mathlib.Core.Path.{_≡_, refl, sym, ap, _∙_, subst}
 use mathlib.Core.List.{List, _++_}
+use mathlib.Core.Bool.{Bool}
 use native.Mathlib.Omega.{arith}
 use lib.ListN.{length, getD, take, drop, replicate, length-append, length-drop}
 use lib.Seq.{take-at}
@@ -19,8 +20,8 @@ use Rattle.lookup.specs.declared.Lookup.{Lookup}
 use Rattle.lookup.proofs.Started.{start-asks}
 use Rattle.lookup.proofs.Ticked.{repeats-is, gives-up-is}
 
-module _ (settings : List Setting) (i : ℕ) (name : List ℕ) (qtype n : ℕ) (s x y z : Given) (o : Octets name) (v : IsInterval (getD settings i unused) n)
-    (w : StartsWhen settings i name (s .time) (s .out)) (t : TickedWhenDue n s x y z) where
+module _ (settings : List Setting) (i : ℕ) (name : List ℕ) (qtype n : ℕ) (permission : Bool) (s x y z : Given) (o : Octets name) (v : IsInterval (getD settings i unused) n)
+    (w : StartsWhen settings i name permission (s .time) (s .out)) (t : TickedWhenDue n s x y z) where
   -- the lookup after so many sends, the last of them at a time
   abbrev after : ℕ → ℕ → Lookup
   after sends time = withPhase (begun settings i name qtype (s .time) (s .id) n) (Asking sends (dueAt (time + n))) time
@@ -71,20 +72,20 @@ module _ (settings : List Setting) (i : ℕ) (name : List ℕ) (qtype n : ℕ) (
         all-sent = omega arith;
       })
 
-  begins-is : Asks (after 1 (s .time)) asked (s .out) (begins settings i name qtype s)
-  begins-is = start-asks settings i name qtype (s .time) (s .id) (s .out) o w n v
+  begins-is : Asks (after 1 (s .time)) asked (s .out) (begins settings i name qtype permission s)
+  begins-is = start-asks settings i name qtype permission (s .time) (s .id) (s .out) o w n v
 
-  first-is : Asks (after 2 (x .time)) asked (x .out) (ticked (begins settings i name qtype s .lookup) x)
+  first-is : Asks (after 2 (x .time)) asked (x .out) (ticked (begins settings i name qtype permission s .lookup) x)
   first-is =
       subst (λ (l : Lookup). Asks (after 2 (x .time)) asked (x .out) (ticked l x)) (sym (begins-is .lookup))
       (again-is 1 (s .time) x (omega arith) (t .first) (omega (arith, t .first, t .third, t .latest)) (t .first-room))
 
-  second-is : Asks (after 3 (y .time)) asked (y .out) (ticked (ticked (begins settings i name qtype s .lookup) x .lookup) y)
+  second-is : Asks (after 3 (y .time)) asked (y .out) (ticked (ticked (begins settings i name qtype permission s .lookup) x .lookup) y)
   second-is =
       subst (λ (l : Lookup). Asks (after 3 (y .time)) asked (y .out) (ticked l y)) (sym (first-is .lookup))
       (again-is 2 (x .time) y (omega arith) (omega (arith, t .first, t .second)) (omega (arith, t .second, t .third, t .latest)) (t .second-room))
 
-  third-is : ticked (ticked (ticked (begins settings i name qtype s .lookup) x .lookup) y .lookup) z
+  third-is : ticked (ticked (ticked (begins settings i name qtype permission s .lookup) x .lookup) y .lookup) z
       ≡ silent (withPhase (after 3 (y .time)) Ended (z .time)) (z .out) no-such-name
   third-is =
       ap (λ (l : Lookup). ticked l z) (second-is .lookup)
@@ -95,7 +96,7 @@ module _ (settings : List Setting) (i : ℕ) (name : List ℕ) (qtype n : ℕ) (
   at-front a = ap (take (length asked)) (a .octets) ∙ take-at asked _ (length asked) refl
 
   -- A start that is taken, and ticks one, two and three intervals after it.
-  pub gives-up-after-three : GivesUp (s .id) name qtype (length asked) (runOf settings i name qtype s x y z)
+  pub gives-up-after-three : GivesUp (s .id) name qtype (length asked) (runOf settings i name qtype permission s x y z)
   gives-up-after-three =
       record {
         asks = begins-is .result;

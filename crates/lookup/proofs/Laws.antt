@@ -3,7 +3,7 @@
 use Prim.Native.Nat.{ℕ}
 use mathlib.Core.Path.{_≡_, refl, ap}
 use mathlib.Core.List.{List}
-use mathlib.Core.Bool.{true}
+use mathlib.Core.Bool.{Bool, true}
 use native.Mathlib.Omega.{arith}
 use Rattle.octets.specs.declared.Setting.{Setting}
 use Rattle.octets.proofs.Tests.{split, never}
@@ -22,10 +22,10 @@ use Rattle.lookup.specs.declared.Lookup.{Lookup}
 
 -- ---- by the verdict
 
-pub start-by : (settings : List Setting) (i : ℕ) (name : List ℕ) (qtype time id : ℕ) (out : List ℕ) (v : Verdict)
-    → verdict (startChecks settings i name time out) ≡ v → start settings i name qtype time id out ≡ startIf v settings i name qtype time id out
+pub start-by : (settings : List Setting) (i : ℕ) (name : List ℕ) (qtype : ℕ) (permission : Bool) (time id : ℕ) (out : List ℕ) (v : Verdict)
+    → verdict (startChecks settings i name permission time out) ≡ v → start settings i name qtype permission time id out ≡ startIf v settings i name qtype time id out
 unfolding start
-start-by settings i name qtype time id out v e = ap (λ (w : Verdict). startIf w settings i name qtype time id out) e
+start-by settings i name qtype permission time id out v e = ap (λ (w : Verdict). startIf w settings i name qtype time id out) e
 
 pub receive-by : (l : Lookup) (a : Arrival) (v : Verdict) → verdict (receiveChecks l a) ≡ v → receive l a ≡ receiveIf v l a
 unfolding receive
@@ -37,17 +37,17 @@ tick-by l time id out v e = ap (λ (w : Verdict). tickIf w l time out) e
 
 -- ---- what a call comes to
 
-pub data Starts (settings : List Setting) (i : ℕ) (name : List ℕ) (qtype time id : ℕ) (out : List ℕ) : Done → Type 0 where
-  refuses : (t : Report) → Starts settings i name qtype time id out (startIf (refusedBy t) settings i name qtype time id out)
-  asks : Clear (startChecks settings i name time out) → Starts settings i name qtype time id out (startIf passed settings i name qtype time id out)
+pub data Starts (settings : List Setting) (i : ℕ) (name : List ℕ) (qtype : ℕ) (permission : Bool) (time id : ℕ) (out : List ℕ) : Done → Type 0 where
+  refuses : (t : Report) → Starts settings i name qtype permission time id out (startIf (refusedBy t) settings i name qtype time id out)
+  asks : Clear (startChecks settings i name permission time out) → Starts settings i name qtype permission time id out (startIf passed settings i name qtype time id out)
 
-pub start-is : (settings : List Setting) (i : ℕ) (name : List ℕ) (qtype time id : ℕ) (out : List ℕ)
-    → Starts settings i name qtype time id out (start settings i name qtype time id out)
-start-is settings i name qtype time id out = go (verdict (startChecks settings i name time out)) refl
+pub start-is : (settings : List Setting) (i : ℕ) (name : List ℕ) (qtype : ℕ) (permission : Bool) (time id : ℕ) (out : List ℕ)
+    → Starts settings i name qtype permission time id out (start settings i name qtype permission time id out)
+start-is settings i name qtype permission time id out = go (verdict (startChecks settings i name permission time out)) refl
   where
-    go : (v : Verdict) → verdict (startChecks settings i name time out) ≡ v → Starts settings i name qtype time id out (start settings i name qtype time id out)
-    go (refusedBy t) e = rw (start-by settings i name qtype time id out (refusedBy t) e) (refuses t)
-    go passed e = rw (start-by settings i name qtype time id out passed e) (asks (clear (startChecks settings i name time out) e))
+    go : (v : Verdict) → verdict (startChecks settings i name permission time out) ≡ v → Starts settings i name qtype permission time id out (start settings i name qtype permission time id out)
+    go (refusedBy t) e = rw (start-by settings i name qtype permission time id out (refusedBy t) e) (refuses t)
+    go passed e = rw (start-by settings i name qtype permission time id out passed e) (asks (clear (startChecks settings i name permission time out) e))
 
 pub data Receives (l : Lookup) (a : Arrival) : Done → Type 0 where
   refuses : (t : Report) → Receives l a (receiveIf (refusedBy t) l a)
@@ -74,11 +74,11 @@ tick-is l time id out = go (verdict (tickChecks l time out)) refl
 -- ---- a refusal changes nothing
 
 -- A refused start gives an ended lookup on an unused interface, all else zero.
-pub start-refused : (settings : List Setting) (i : ℕ) (name : List ℕ) (qtype time id : ℕ) (out : List ℕ) (t : Report)
-    → start settings i name qtype time id out .result ≡ refused t → Unchanged endedLookup out (start settings i name qtype time id out)
-start-refused settings i name qtype time id out t = go (start-is settings i name qtype time id out)
+pub start-refused : (settings : List Setting) (i : ℕ) (name : List ℕ) (qtype : ℕ) (permission : Bool) (time id : ℕ) (out : List ℕ) (t : Report)
+    → start settings i name qtype permission time id out .result ≡ refused t → Unchanged endedLookup out (start settings i name qtype permission time id out)
+start-refused settings i name qtype permission time id out t = go (start-is settings i name qtype permission time id out)
   where
-    go : {d : Done} → Starts settings i name qtype time id out d → d .result ≡ refused t → Unchanged endedLookup out d
+    go : {d : Done} → Starts settings i name qtype permission time id out d → d .result ≡ refused t → Unchanged endedLookup out d
     go (refuses u) e = record { lookup = refl; octets = refl; to = refl }
     go (asks c) e = never (ap isRefused e) refl
 
@@ -104,11 +104,11 @@ tick-refused l time id out t = go (tick-is l time id out)
 
 -- ---- an accepted call sets the clock
 
-pub start-clock : (settings : List Setting) (i : ℕ) (name : List ℕ) (qtype time id : ℕ) (out : List ℕ) → Accepted (start settings i name qtype time id out)
-    → start settings i name qtype time id out .lookup .clock ≡ time
-start-clock settings i name qtype time id out = go (start-is settings i name qtype time id out)
+pub start-clock : (settings : List Setting) (i : ℕ) (name : List ℕ) (qtype : ℕ) (permission : Bool) (time id : ℕ) (out : List ℕ) → Accepted (start settings i name qtype permission time id out)
+    → start settings i name qtype permission time id out .lookup .clock ≡ time
+start-clock settings i name qtype permission time id out = go (start-is settings i name qtype permission time id out)
   where
-    go : {d : Done} → Starts settings i name qtype time id out d → Accepted d → d .lookup .clock ≡ time
+    go : {d : Done} → Starts settings i name qtype permission time id out d → Accepted d → d .lookup .clock ≡ time
     go (refuses u) x = absurd (x u refl)
     go (asks c) x = refl
 

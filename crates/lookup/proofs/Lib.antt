@@ -1,4 +1,5 @@
 pub mod Laws
+pub mod SeveralLabels
 pub mod Conditions
 pub mod Turns
 pub mod Refusals

@@ -122,11 +122,11 @@ none-after q cs =
     record { many = 0; few = omega arith; same = s .same ∙ ap (λ (m : ℕ). replicate m (queryFor 0 [] 0)) n }
 
 -- A start, accepted or not, and any list of calls on what it gives. The query has the start's ID, flags 0, the name, the type and class 1.
-pub three-queries-at-most : (settings : List Setting) (i : ℕ) (name : List ℕ) (qtype time id : ℕ) (out : List ℕ) (cs : List Call)
-    → SendsAtMost 3 (lookupQuery id name qtype) (start settings i name qtype time id out ∷ run (start settings i name qtype time id out .lookup) cs)
-three-queries-at-most settings i name qtype time id out cs = rw (← query-is id name qtype) (go (start-is settings i name qtype time id out))
+pub three-queries-at-most : (settings : List Setting) (i : ℕ) (name : List ℕ) (qtype : ℕ) (permission : Bool) (time id : ℕ) (out : List ℕ) (cs : List Call)
+    → SendsAtMost 3 (lookupQuery id name qtype) (start settings i name qtype permission time id out ∷ run (start settings i name qtype permission time id out .lookup) cs)
+three-queries-at-most settings i name qtype permission time id out cs = rw (← query-is id name qtype) (go (start-is settings i name qtype permission time id out))
   where
-    go : {d : Done} → Starts settings i name qtype time id out d → SendsAtMost 3 (queryFor id name qtype) (d ∷ run (d .lookup) cs)
+    go : {d : Done} → Starts settings i name qtype permission time id out d → SendsAtMost 3 (queryFor id name qtype) (d ∷ run (d .lookup) cs)
     go (Starts.refuses t) = and-none _ refl (weaker (omega arith) (none-after (queryFor id name qtype) cs))
     go (Starts.asks c) =
         let s = name-short name (nameAt name 0) refl (c .1 .1 .1 .0) in

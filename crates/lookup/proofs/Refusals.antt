@@ -28,32 +28,35 @@ use Rattle.lookup.specs.Receive.{Arrival, header, question, heard, recei
 use Rattle.lookup.specs.Tick.{Turn, rest, again, give-up, finish, tickChecks, turnOf, turned, tickIf, tick}
 use Rattle.lookup.specs.Refusals.{startCases, IsAwaited, OfQuestion, IsCutShort, receiveCases, tickCases}
 use Rattle.lookup.specs.declared.Lookup.{Lookup}
-use Rattle.lookup.proofs.Conditions.{unused-is, clock-is, name-is, awaited-is, cut-is}
+use Rattle.lookup.proofs.Conditions.{unused-is, clock-is, name-is, name-several, awaited-is, cut-is}
 
 -- a call's result is a refusal exactly if its verdict is one
 refused-by : (done : Verdict → Done) → ((t : Report) → done (refusedBy t) .result ≡ refused t) → isRefused (done passed .result) ≡ false
     → (v : Verdict) (t : Report) → (done v .result ≡ refused t) ↔ (v ≡ refusedBy t)
 refused-by done r p = told-by refused isRefused (λ v. done v .result) (λ t. refl) (λ s t e. cc) r p
 
--- Start: 1, 3, 4, 10.
-pub start-refused-exactly : (settings : List Setting) (i : ℕ) (name : List ℕ) (qtype time id : ℕ) (out : List ℕ) → Octets name → (t : Report)
-    → (start settings i name qtype time id out .result ≡ refused t) ↔ First t (startCases settings i name time out)
+-- Start: 1, 3, 4, 10, 22.
+pub start-refused-exactly : (settings : List Setting) (i : ℕ) (name : List ℕ) (qtype : ℕ) (permission : Bool) (time id : ℕ) (out : List ℕ) → Octets name → (t : Report)
+    → (start settings i name qtype permission time id out .result ≡ refused t) ↔ First t (startCases settings i name permission time out)
 unfolding start
-start-refused-exactly settings i name qtype time id out o t =
-    Iff·trans (refused-by (λ v. startIf v settings i name qtype time id out) (λ u. refl) refl (verdict (startChecks settings i name time out)) t)
+start-refused-exactly settings i name qtype permission time id out o t =
+    Iff·trans (refused-by (λ v. startIf v settings i name qtype time id out) (λ u. refl) refl (verdict (startChecks settings i name permission time out)) t)
     (checks .exactly t)
   where
     bad : (b : Bool) {c : Type 0} → (b ≡ false) ↔ c → (b ≡ true) ↔ (c → ⊥)
     bad true i = (λ e x. never refl (i .1 x), λ f. refl)
     bad false i = (λ e. never e refl, λ f. absurd (f (i .0 refl)))
 
-    checks : Exactly (startChecks settings i name time out) (startCases settings i name time out)
+    checks : Exactly (startChecks settings i name permission time out) (startCases settings i name permission time out)
     checks =
         check _ 1 (below-number _ _)
         (λ e1. check _ 3 (unused-is i (getD settings i unused))
         (λ e3. check _ 4 (below-number _ _)
         (λ e4. check _ 10 (bad _ (name-is name o))
-        (λ e10. ends))))
+        (λ e10.
+        let w = name-is name o .0 e10 in
+        check _ 22 ((λ e. (w, name-several permission name w .0 e)), λ x. name-several permission name (x .0) .1 (x .1))
+        (λ e22. ends)))))
 
 -- Tick: 1, 4.
 pub tick-refused-exactly : (l : Lookup) (time id : ℕ) (out : List ℕ) (t : Report) → (tick l time id out .result ≡ refused t) ↔ First t (tickCases l time out)

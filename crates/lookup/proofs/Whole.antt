@@ -3,6 +3,7 @@ use Prim.Native.Nat.{ℕ, _≤_}
 use mathlib.Core.Path.{_≡_, refl, sym, _∙_}
 use mathlib.Core.Logic.{_↔_}
 use mathlib.Core.List.{List}
+use mathlib.Core.Bool.{Bool}
 use lib.ListN.{length, getD}
 use Rattle.octets.specs.Octets.{Octets}
 use Rattle.octets.specs.Addresses.{unused}
@@ -50,23 +51,23 @@ both-refused l out cases d e v w t q = v .nothing-else t (v .exactly t .1 (w .ex
 
 -- ---- start
 
-module _ (settings : List Setting) (i : ℕ) (name : List ℕ) (qtype time id : ℕ) (out : List ℕ) (o : Octets name) where
-  pub start-is-plain : PlainStart settings i name qtype time id out (start settings i name qtype time id out)
+module _ (settings : List Setting) (i : ℕ) (name : List ℕ) (qtype : ℕ) (permission : Bool) (time id : ℕ) (out : List ℕ) (o : Octets name) where
+  pub start-is-plain : PlainStart settings i name qtype permission time id out (start settings i name qtype permission time id out)
   start-is-plain =
       record {
         refusals =
-            refused-exactly zeroLookup out _ _ (start-refused-exactly settings i name qtype time id out o)
-            (start-refused settings i name qtype time id out);
-        accepted = start-asks settings i name qtype time id out o;
+            refused-exactly zeroLookup out _ _ (start-refused-exactly settings i name qtype permission time id out o)
+            (start-refused settings i name qtype permission time id out);
+        accepted = start-asks settings i name qtype permission time id out o;
       }
 
-  pub plain-is-start : (d : Done) → PlainStart settings i name qtype time id out d → d ≡ start settings i name qtype time id out
-  plain-is-start d p = go (start-is settings i name qtype time id out) start-is-plain
+  pub plain-is-start : (d : Done) → PlainStart settings i name qtype permission time id out d → d ≡ start settings i name qtype permission time id out
+  plain-is-start d p = go (start-is settings i name qtype permission time id out) start-is-plain
     where
-      go : {e : Done} → Starts settings i name qtype time id out e → PlainStart settings i name qtype time id out e → d ≡ e
+      go : {e : Done} → Starts settings i name qtype permission time id out e → PlainStart settings i name qtype permission time id out e → d ≡ e
       go (Starts.refuses t) s = both-refused zeroLookup out _ d _ (p .refusals) (s .refusals) t refl
       go (Starts.asks c) s =
-          let w = starts-when settings i name qtype time id out o c in
+          let w = starts-when settings i name qtype permission time id out o c in
           let n = has-interval (getD settings i unused) in
           asks-one _ _ out d _ (p .accepted w (n .0) (n .1)) (s .accepted w (n .0) (n .1))
 

@@ -5,7 +5,7 @@ use Prim.Native.Nat.{ℕ, _+_, _/_, _%_, _<_, _≤_}
 use mathlib.Core.Path.{_≡_}
 use mathlib.Core.Logic.{_⊎_}
 use mathlib.Core.List.{List, [], _∷_, _++_}
-use mathlib.Core.Bool.{true, false}
+use mathlib.Core.Bool.{Bool, true, false}
 use lib.ListN.{length, getD, drop, replicate}
 use Rattle.octets.specs.Addresses.{unused}
 use Rattle.octets.specs.PlainAddresses.{IsGroup, IsOneOfOurs, GroupEndpoint, nothing}
@@ -21,7 +21,7 @@ use Rattle.host.specs.declared.Timer.{Timer}
 use Rattle.lookup.specs.State.{settingOf, withPhase}
 use Rattle.lookup.specs.Outcomes.{Result, query, Done}
 use Rattle.lookup.specs.Receive.{Arrival}
-use Rattle.lookup.specs.Refusals.{IsToLookUp, IsAwaited}
+use Rattle.lookup.specs.Refusals.{IsToLookUp, IsReverse, IsAwaited}
 use Rattle.lookup.specs.declared.Phase.{Phase}
 use Rattle.lookup.specs.declared.Phase.the-variants.{Asking, Collecting, Ended}
 use Rattle.lookup.specs.declared.Lookup.{Lookup}
@@ -53,11 +53,13 @@ pub record Asks (l : Lookup) (sent out : List ℕ) (d : Done) : Type 0 where
 -- ---- Start.
 
 -- It is taken, and its query goes out.
-pub record StartsWhen (settings : List Setting) (i : ℕ) (name : List ℕ) (time : ℕ) (out : List ℕ) : Type 0 where
+pub record StartsWhen (settings : List Setting) (i : ℕ) (name : List ℕ) (permission : Bool) (time : ℕ) (out : List ℕ) : Type 0 where
   pub room : 512 ≤ length out
   pub used : IsUsed i (getD settings i unused)
   pub latest : time ≤ 281474976710655
   pub name-is : IsToLookUp name
+  -- it has one label, or the start has the permission, or it is a reverse name
+  pub may-ask : (length (name-is .name) < 2) ⊎ (permission ≡ true) ⊎ IsReverse (name-is .name)
 
 -- A lookup that has just been started, with an interval of n: sent once, due an interval from now. Its name fills the front of an array of
 -- 255 octets, the rest of which is zero.

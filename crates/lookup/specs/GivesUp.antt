@@ -2,6 +2,7 @@
 use Prim.Native.Nat.{ℕ, _+_, _≤_}
 use mathlib.Core.Path.{_≡_}
 use mathlib.Core.List.{List}
+use mathlib.Core.Bool.{Bool}
 use lib.ListN.{length, take}
 use Rattle.octets.specs.declared.Setting.{Setting}
 use Rattle.host.specs.ThreeQueries.{Given}
@@ -22,16 +23,16 @@ pub record Run : Type 0 where
 abbrev pub ticked : Lookup → Given → Done
 ticked l g = tick l (g .time) (g .id) (g .out)
 
-abbrev pub begins : List Setting → ℕ → List ℕ → ℕ → Given → Done
-begins settings i name qtype g = start settings i name qtype (g .time) (g .id) (g .out)
+abbrev pub begins : List Setting → ℕ → List ℕ → ℕ → Bool → Given → Done
+begins settings i name qtype permission g = start settings i name qtype permission (g .time) (g .id) (g .out)
 
-abbrev pub runOf : List Setting → ℕ → List ℕ → ℕ → Given → Given → Given → Given → Run
-runOf settings i name qtype s x y z =
+abbrev pub runOf : List Setting → ℕ → List ℕ → ℕ → Bool → Given → Given → Given → Given → Run
+runOf settings i name qtype permission s x y z =
     record {
-      start = begins settings i name qtype s;
-      first = ticked (begins settings i name qtype s .lookup) x;
-      second = ticked (ticked (begins settings i name qtype s .lookup) x .lookup) y;
-      third = ticked (ticked (ticked (begins settings i name qtype s .lookup) x .lookup) y .lookup) z;
+      start = begins settings i name qtype permission s;
+      first = ticked (begins settings i name qtype permission s .lookup) x;
+      second = ticked (ticked (begins settings i name qtype permission s .lookup) x .lookup) y;
+      third = ticked (ticked (ticked (begins settings i name qtype permission s .lookup) x .lookup) y .lookup) z;
     }
 
 -- The ticks come one, two and three intervals of n after the start, within the clock's range, and have room.

@@ -1,5 +1,6 @@
 pub mod State
 pub mod Outcomes
+pub mod SeveralLabels
 pub mod Start
 pub mod Receive
 pub mod Tick

@@ -1,9 +1,9 @@
 -- When each refusal number is given: for start, receive and tick a list of number and condition, in document 01's order for the call, with
 -- its own numbers. That a call gives a number exactly as its list says is shown in proofs/Refusals.antt.
-use Prim.Native.Nat.{ℕ, _+_, _<_}
+use Prim.Native.Nat.{ℕ, _+_, _<_, _≤_}
 use mathlib.Core.Path.{_≡_}
 use mathlib.Core.Logic.{_≢_, _⊎_}
-use mathlib.Core.List.{List, [], _∷_, map}
+use mathlib.Core.List.{List, [], _∷_, _++_, map}
 use mathlib.Core.Bool.{Bool, true, false}
 use lib.ListN.{length, getD, take}
 use Rattle.octets.specs.Octets.{partOf}
@@ -27,7 +27,7 @@ use Rattle.lookup.specs.declared.Lookup.{Lookup}
 abbrev pub IsUnused : ℕ → Setting → Type 0
 IsUnused i s = (3 < i) ⊎ ((s .family ≢ 4) × (s .family ≢ 6))
 
--- ---- Start: 1, 3, 4, 10.
+-- ---- Start: 1, 3, 4, 10, 22.
 
 -- octets are a name to be looked up: one or more labels, and nothing after the name
 pub record IsToLookUp (octets : List ℕ) : Type 0 where
@@ -36,12 +36,39 @@ pub record IsToLookUp (octets : List ℕ) : Type 0 where
   pub not-root : name ≢ []
   pub octets-are : octets ≡ encode name
 
-abbrev pub startCases : List Setting → ℕ → List ℕ → ℕ → List ℕ → List Case
-startCases settings i name time out =
+-- the labels in-addr, ip6 and arpa
+abbrev pub inAddr : List ℕ
+inAddr = 0x69 ∷ 0x6e ∷ 0x2d ∷ 0x61 ∷ 0x64 ∷ 0x64 ∷ 0x72 ∷ []
+
+abbrev pub ip6 : List ℕ
+ip6 = 0x69 ∷ 0x70 ∷ 0x36 ∷ []
+
+abbrev pub arpa : List ℕ
+arpa = 0x61 ∷ 0x72 ∷ 0x70 ∷ 0x61 ∷ []
+
+-- a reverse name: its labels, with 65..90 raised by 32, are one or more labels and then in-addr, arpa or ip6, arpa
+pub record IsReverse (name : Labels) : Type 0 where
+  pub before : Labels
+  pub some : 1 ≤ length before
+  pub ends : (map (map folded) name ≡ before ++ (inAddr ∷ arpa ∷ [])) ⊎ (map (map folded) name ≡ before ++ (ip6 ∷ arpa ∷ []))
+
+-- a name has several labels, and is not let by
+pub record HasSeveral (permission : Bool) (name : Labels) : Type 0 where
+  pub two : 2 ≤ length name
+  pub no-permission : permission ≡ false
+  pub not-reverse : IsReverse name → ⊥
+
+-- the octets are a name to be looked up, and this holds of its labels
+abbrev pub OfName : List ℕ → (Labels → Type 0) → Type 0
+OfName octets c = (w : IsToLookUp octets) × c (w .name)
+
+abbrev pub startCases : List Setting → ℕ → List ℕ → Bool → ℕ → List ℕ → List Case
+startCases settings i name permission time out =
     case 1 (length out < 512)
     ∷ case 3 (IsUnused i (getD settings i unused))
     ∷ case 4 (281474976710655 < time)
     ∷ case 10 (IsToLookUp name → ⊥)
+    ∷ case 22 (OfName name (HasSeveral permission))
     ∷ []
 
 -- ---- Receive: 1, 3 to 5, 15 for a query, 6 to 10, 15, 16, 17, 18.

@@ -4,6 +4,7 @@ use Prim.Native.Nat.{ℕ, _+_}
 use mathlib.Core.Path.{_≡_}
 use mathlib.Core.Logic.{_↔_}
 use mathlib.Core.List.{List}
+use mathlib.Core.Bool.{Bool}
 use lib.ListN.{getD, take}
 use Rattle.octets.specs.Addresses.{unused}
 use Rattle.octets.specs.PlainAddresses.{nothing}
@@ -30,9 +31,9 @@ pub record RefusedExactly (l : Lookup) (out : List ℕ) (cases : List Case) (d :
 
 -- A start, with the call's ID. A refusal gives an ended lookup on an unused interface, all else zero. Otherwise the query goes out to the group,
 -- and the lookup is due an interval of n from now.
-pub record PlainStart (settings : List Setting) (i : ℕ) (name : List ℕ) (qtype time id : ℕ) (out : List ℕ) (d : Done) : Type 0 where
-  pub refusals : RefusedExactly zeroLookup out (startCases settings i name time out) d
-  pub accepted : StartsWhen settings i name time out → (n : ℕ) → IsInterval (getD settings i unused) n
+pub record PlainStart (settings : List Setting) (i : ℕ) (name : List ℕ) (qtype : ℕ) (permission : Bool) (time id : ℕ) (out : List ℕ) (d : Done) : Type 0 where
+  pub refusals : RefusedExactly zeroLookup out (startCases settings i name permission time out) d
+  pub accepted : StartsWhen settings i name permission time out → (n : ℕ) → IsInterval (getD settings i unused) n
       → Asks (begun settings i name qtype time id n) (lookupQuery id name qtype) out d
 
 -- A datagram that arrives. With C clear the lookup ends; with C set it collects. Both hand out the offset after the question and ANCOUNT.

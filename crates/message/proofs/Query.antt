@@ -69,14 +69,14 @@ query-header id flags question r =
 -- The question of a query is read back, whatever stands after it: the one that was given by name, type and class,
 pub query-asks : (id flags : ℕ) (n : Labels) (qtype class : ℕ) (r : List ℕ) → IsName n
     → questionAt (queryOctets id flags (questionOctets (encode n) qtype class) ++ r) headerOctets
-    ≡ GoodQuestion (record { name = length (encode n); qtype = qtype; class = class; end = headerOctets + length (encode n) + 4 })
+    ≡ GoodQuestion (record { name = length (encode n); labels = length n; qtype = qtype; class = class; end = headerOctets + length (encode n) + 4 })
 unfolding queryOctets
 query-asks id flags n qtype class r h = question-back (queryOctets id flags []) n qtype class r h
 
 -- or the one whose octets were copied from another message.
 pub query-copies : (id flags : ℕ) (s : List ℕ) (at : ℕ) (q : Question) (r : List ℕ) → Octets s → IsQuestion s at q
     → questionAt (queryOctets id flags (partOf s at (q .end)) ++ r) headerOctets
-    ≡ GoodQuestion (record { name = q .name; qtype = q .qtype; class = q .class; end = headerOctets + q .name + 4 })
+    ≡ GoodQuestion (record { name = q .name; labels = q .labels; qtype = q .qtype; class = q .class; end = headerOctets + q .name + 4 })
 unfolding queryOctets
 query-copies id flags s at q r o f = question-moves s at q o f (queryOctets id flags []) r
 

@@ -37,7 +37,7 @@ module _ (s : List ℕ) (at : ℕ) where
   unfolding questionAt
   question-cut n e h = rw (e, lt-ltb _ _ h)
 
-  pub question-good : (n : Name) → nameAt s at ≡ GoodName n → at + n .len + 4 ≤ length s → questionAt s at ≡ Good (questionOf s at (n .len))
+  pub question-good : (n : Name) → nameAt s at ≡ GoodName n → at + n .len + 4 ≤ length s → questionAt s at ≡ Good (questionOf s at n)
   unfolding questionAt
   question-good n e h = rw (e, le-ltb _ _ h)
 
@@ -54,9 +54,10 @@ name-within s at = go (nameAt s at)
 -- ---- in plain words
 
 is-question : (s : List ℕ) (at : ℕ) (n : Name) → Octets s → nameAt s at ≡ GoodName n → at + n .len + 4 ≤ length s
-    → IsQuestion s at (questionOf s at (n .len))
+    → IsQuestion s at (questionOf s at n)
 is-question s at n o e h =
-    record { name = reads-a-name s at n o .0 e .name-at; whole = h; qtype = refl; class = refl; end = refl }
+    let r = reads-a-name s at n o .0 e in
+    record { name = r .name-at; labels = r .labels-are; whole = h; qtype = refl; class = refl; end = refl }
 
 found : (s : List ℕ) (at : ℕ) (q : Question) → Octets s → questionAt s at ≡ Good q → IsQuestion s at q
 found s at q o e = go (nameAt s at) refl
@@ -69,17 +70,17 @@ found s at q o e = go (nameAt s at) refl
         (λ t. absurd (let z : _≡_ {A = ℕ} 0 1 = cc (question-cut s at n f (ltb-true _ _ t)) in omega arith))
         (λ t.
         let h : at + n .len + 4 ≤ length s = ltb-false _ _ t in
-        let g : questionOf s at (n .len) ≡ q = cc (question-good s at n f h) in
+        let g : questionOf s at n ≡ q = cc (question-good s at n f h) in
         subst (λ (x : Question). IsQuestion s at x) g (is-question s at n o f h))
 
-pub same-question : {n t c e u d f : ℕ} → t ≡ u → c ≡ d → e ≡ f
-    → _≡_ {A = Question} (record { name = n; qtype = t; class = c; end = e }) (record { name = n; qtype = u; class = d; end = f })
-same-question p q r = cc
+pub same-question : {n l t c e m u d f : ℕ} → l ≡ m → t ≡ u → c ≡ d → e ≡ f
+    → _≡_ {A = Question} (record { name = n; labels = l; qtype = t; class = c; end = e }) (record { name = n; labels = m; qtype = u; class = d; end = f })
+same-question p q r s = cc
 
 read : (s : List ℕ) (at : ℕ) (q : Question) → Octets s → IsQuestion s at q → questionAt s at ≡ Good q
 read s at q o f =
     question-good s at _ (finds-name s at (q .name) o (f .name)) (f .whole)
-    ∙ ap Good (same-question (sym (f .qtype)) (sym (f .class)) (sym (f .end)))
+    ∙ ap Good (same-question (sym (f .labels)) (sym (f .qtype)) (sym (f .class)) (sym (f .end)))
 
 -- The reader finds a question exactly if one stands there: a name, and type and class after it, all inside.
 pub reads-a-question : (s : List ℕ) (at : ℕ) (q : Question) → Octets s → (questionAt s at ≡ Good q) ↔ IsQuestion s at q
@@ -115,7 +116,7 @@ big-here s p v t e =
 -- The octets of a question are read back as that question, whatever stands before and after them.
 pub question-back : (b : List ℕ) (n : Labels) (qtype class : ℕ) (r : List ℕ) → IsName n
     → questionAt (b ++ (questionOctets (encode n) qtype class ++ r)) (length b)
-    ≡ Good (record { name = length (encode n); qtype = qtype; class = class; end = length b + length (encode n) + 4 })
+    ≡ Good (record { name = length (encode n); labels = length n; qtype = qtype; class = class; end = length b + length (encode n) + 4 })
 question-back b n qtype class r h =
     let u : List ℕ = bigOctets class ++ r in
     let t : List ℕ = bigOctets qtype ++ u in
@@ -127,7 +128,7 @@ question-back b n qtype class r h =
     let l : length s ≡ length b + (length (encode n) + length t) = simp length-append in
     rw same
     (question-good s (length b) _ (reads-back b n t h) (omega arith)
-    ∙ ap Good (same-question (big-here s p qtype u e) (big-here s (p + 2) class r f) refl))
+    ∙ ap Good (same-question refl (big-here s p qtype u e) (big-here s (p + 2) class r f) refl))
 
 -- the octets of the word at p, and the rest
 word-there : (s : List ℕ) (p : ℕ) → Octets s → p + 2 ≤ length s → drop p s ≡ bigOctets (bigAt s p) ++ drop (p + 2) s
@@ -159,7 +160,7 @@ question-part s at q o f =
 -- A question reads the same wherever its octets stand.
 pub question-moves : (s : List ℕ) (at : ℕ) (q : Question) → Octets s → IsQuestion s at q → (b r : List ℕ)
     → questionAt (b ++ (partOf s at (q .end) ++ r)) (length b)
-    ≡ Good (record { name = q .name; qtype = q .qtype; class = q .class; end = length b + q .name + 4 })
+    ≡ Good (record { name = q .name; labels = q .labels; qtype = q .qtype; class = q .class; end = length b + q .name + 4 })
 question-moves s at q o f b r =
-    rw (question-part s at q o f, f .name .len-is)
+    rw (question-part s at q o f, f .name .len-is, f .labels)
     (question-back b (f .name .name) (q .qtype) (q .class) r (f .name .is-name))

@@ -72,9 +72,10 @@ pub fn read_header(s: &[u8]) -> HeaderRead
     HeaderRead::Good(header)
 }
 
-// A question: the octets of its name, its type and class, and the offset after it.
+// A question: the octets of its name and its labels, its type and class, and the offset after it.
 pub struct Question {
     pub name: usize,
+    pub labels: usize,
     pub qtype: u16,
     pub class: u16,
     pub end: usize,
@@ -99,6 +100,7 @@ pub fn read_question(s: &[u8], at: usize) -> QuestionRead
     }
     QuestionRead::Good(Question {
         name: n.len,
+        labels: n.labels,
         qtype: octets::big(s, p),
         class: octets::big(s, p + 2),
         end: p + 4,

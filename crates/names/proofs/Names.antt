@@ -1,7 +1,7 @@
 -- What the reader of a name without pointers means, in the plain words of specs/Names.antt.
 use Prim.Native.Nat.{ℕ, suc, zero, _+_, _<_, _≤_, min}
 use mathlib.Core.Path.{_≡_, refl, sym, ap, _∙_, subst}
-use mathlib.Core.List.{List, [], _∷_, _++_, append-assoc}
+use mathlib.Core.List.{List, [], _∷_, _++_, append-assoc, append-nil}
 use mathlib.Core.Logic.{_↔_, _⊎_, inl, inr}
 use native.Mathlib.Omega.{arith}
 use lib.ListN.{length, take, drop, length-append, length-drop, length-take, take-append-drop}
@@ -224,6 +224,10 @@ reads-back b n r h =
     let z : 0 + length (encode n) ≡ length (encode n) = omega arith in
     complete longestName (b ++ (encode n ++ r)) (length b) 0 n r (h .labels) e s f
     ∙ ap (λ (x : ℕ). Good (record { len = x; labels = length n })) z
+
+-- Alone, too.
+pub reads-alone : (n : Labels) → IsName n → nameAt (encode n) 0 ≡ Good (record { len = length (encode n); labels = length n })
+reads-alone n h = ap (λ (x : List ℕ). nameAt x 0) (sym (append-nil (encode n))) ∙ reads-back [] n [] h
 
 -- A name that stands in s ends within s.
 pub name-inside : (s : List ℕ) (at len : ℕ) → NameAt s at len → at + len ≤ length s

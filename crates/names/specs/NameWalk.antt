@@ -14,6 +14,11 @@ abbrev pub moreLabels : ℕ → NameRead → NameRead
 moreLabels m (Good r) = Good (record { len = r .len; labels = m + r .labels })
 moreLabels m Bad = Bad
 
+-- the labels of a name that was read; none if it was not
+abbrev pub labelsOf : NameRead → ℕ
+labelsOf (Good r) = r .labels
+labelsOf Bad = 0
+
 -- One turn at p, after n octets of the name: its zero octet, or a label, after which `rest` reads on. A label leaves room for the
 -- zero octet, which is no label itself.
 abbrev pub nameTurn : List ℕ → ℕ → ℕ → (ℕ → ℕ → NameRead) → NameRead

@@ -48,10 +48,10 @@ in-range clock time e = clock-good clock time .0 e .0
 
 -- ---- start
 
-module _ (settings : List Setting) (i : ℕ) (name : List ℕ) (qtype time id : ℕ) (out : List ℕ) where
-  pub start-refuses : {t : Report} → Gives (startChecks settings i name time out) (refused t)
-      → refusal endedLookup out t ≡ start settings i name qtype time id out
-  start-refuses g = sym (start-by settings i name qtype time id out (refused _) (sym (gives g)))
+module _ (settings : List Setting) (i : ℕ) (name : List ℕ) (qtype : ℕ) (permission : Bool) (time id : ℕ) (out : List ℕ) where
+  pub start-refuses : {t : Report} → Gives (startChecks settings i name permission time out) (refused t)
+      → refusal endedLookup out t ≡ start settings i name qtype permission time id out
+  start-refuses g = sym (start-by settings i name qtype permission time id out (refused _) (sym (gives g)))
 
   -- what the code gives, with the interface at its place
   abbrev starting : ℕ → Done
@@ -73,9 +73,9 @@ module _ (settings : List Setting) (i : ℕ) (name : List ℕ) (qtype time id : 
         octets = put out 0 (queryFor id name qtype);
       }
 
-  pub start-accepts : (at : ℕ) → at ≡ i → Gives (startChecks settings i name time out) passed
-      → starting at ≡ start settings i name qtype time id out
-  start-accepts at e g = ap starting e ∙ sym (start-by settings i name qtype time id out passed (sym (gives g)))
+  pub start-accepts : (at : ℕ) → at ≡ i → Gives (startChecks settings i name permission time out) passed
+      → starting at ≡ start settings i name qtype permission time id out
+  start-accepts at e g = ap starting e ∙ sym (start-by settings i name qtype permission time id out passed (sym (gives g)))
 
 -- ---- tick
 

@@ -1,2 +1,3 @@
 pub mod MatchingLaws
 pub mod CallLaws
+pub mod NameLaws

@@ -10,6 +10,7 @@ ghost use Rattle.lookup.specs.Tick.{tick as tickOf};
 
 mod matching;
 mod question;
+mod several;
 mod turn;
 
 use host::Host;
@@ -60,17 +61,19 @@ fn moved(lookup: Lookup, phase: Phase, time: u64) -> Lookup
     }
 }
 
-// Starts a lookup of a name on an interface of a host with these settings: its query goes out for the first time.
+// Starts a lookup of a name on an interface of a host with these settings: its query goes out for the first time. The permission is for names of
+// several labels.
 pub fn start(
     settings: [Setting; Setting::COUNT],
     interface: usize,
     name: &[u8],
     qtype: u16,
+    permission: bool,
     time: u64,
     id: u16,
     out: &mut [u8],
 ) -> Step
-    ensures { λ r. ⌜ doneBy r (now (out .exit)) ≡ startOf settings interface (now (name .entry)) qtype time id (now (out .entry)) ⌝ }
+    ensures { λ r. ⌜ doneBy r (now (out .exit)) ≡ startOf settings interface (now (name .entry)) qtype permission time id (now (out .entry)) ⌝ }
 {
     let at = checks::slot(interface);
     let s = settings[at];
@@ -83,8 +86,10 @@ pub fn start(
     if Host::LATEST < time {
         return refuse(Lookup::ended(), Refusal::Clock);
     }
-    if question::is_bad(name) {
-        return refuse(Lookup::ended(), Refusal::Question);
+    let n = question::check(permission, name);
+    if n.refused {
+        let why = n.refusal;
+        return refuse(Lookup::ended(), why);
     }
     let mut kept = [0u8; Name::LONGEST];
     octets::put_octets(&mut kept, 0, name);

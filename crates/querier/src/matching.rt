@@ -23,7 +23,7 @@ pub(crate) struct Matching {
     pub(crate) refusal: Refusal,
 }
 
-fn refuse(refusal: Refusal) -> Matching
+pub(crate) fn refuse(refusal: Refusal) -> Matching
     ensures { λ r. ⌜ r ≡ record { refused = true; refusal = refusal } ⌝ }
 {
     Matching {

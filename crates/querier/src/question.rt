@@ -4,22 +4,35 @@ ghost use lib.ListN.{length, take};
 ghost use Rattle.octets.specs.Octets.{put};
 ghost use Rattle.names.specs.NameWalk.{nameAt};
 ghost use Rattle.lookup.specs.Outcomes.{queryFor};
-ghost use Rattle.lookup.specs.Start.{badName};
+ghost use Rattle.refusal.specs.Checks.{verdict};
+ghost use Rattle.lookup.specs.Start.{nameChecks};
+ghost use Rattle.querier.specs.Matching.{matchedBy};
+use crate::matching::Matching;
 use message::ResourceRecord;
 use names::NameRead;
+use refusal::Refusal;
 
-// Whether octets are not a name to look up: not one name from end to end, or the root.
-pub(crate) fn is_bad(octets: &[u8]) -> bool
-    ensures { λ r. ⌜ r ≡ badName (now (octets .entry)) (nameAt (now (octets .entry)) 0) ⌝ }
+// Whether octets are a name to look up: one name from end to end, and not the root; of one label, or one that is let by. They are read once.
+pub(crate) fn check(permission: bool, octets: &[u8]) -> Matching
+    ensures { λ r. ⌜ matchedBy r ≡ verdict (nameChecks permission (now (octets .entry)) (nameAt (now (octets .entry)) 0)) ⌝ }
 {
     let read = names::read_name(octets, 0);
     let NameRead::Good(n) = read else {
-        return true;
+        return crate::matching::refuse(Refusal::Question);
     };
     if n.len == 1 {
-        return true;
+        return crate::matching::refuse(Refusal::Question);
     }
-    n.len != octets.len()
+    if n.len != octets.len() {
+        return crate::matching::refuse(Refusal::Question);
+    }
+    if crate::several::is_barred(permission, octets, n.labels) {
+        return crate::matching::refuse(Refusal::SeveralLabels);
+    }
+    Matching {
+        refused: false,
+        refusal: Refusal::Question,
+    }
 }
 
 // The name that a lookup keeps: the first octets of its array, all of them where it has no more.

@@ -2,7 +2,7 @@
 ghost use mathlib.Core.Path.{_≡_};
 ghost use Rattle.refusal.specs.Numbers.{numberOf};
 
-// Why a call was refused, in the order of document 01's table.
+// Why a call was refused, in the order of document 01's table; document 02 adds the last.
 pub enum Refusal {
     Room,
     Table { at: usize },
@@ -24,10 +24,11 @@ pub enum Refusal {
     Records,
     Busy,
     Settings,
+    SeveralLabels,
 }
 
 impl Refusal {
-    // The refusal's number in document 01.
+    // The refusal's number in document 01 or 02.
     pub fn number(self) -> u8
         ensures { λ r. ⌜ r ≡ numberOf self ⌝ }
     {
@@ -52,6 +53,7 @@ impl Refusal {
             Refusal::Records => 18,
             Refusal::Busy => 19,
             Refusal::Settings => 20,
+            Refusal::SeveralLabels => 22,
         }
     }
 }

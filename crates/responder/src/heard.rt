@@ -62,6 +62,7 @@ fn refuse(refusal: Refusal) -> Heard
     };
     let question = Question {
         name: 0,
+        labels: 0,
         qtype: 0,
         class: 0,
         end: 0,

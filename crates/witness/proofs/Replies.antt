@@ -81,8 +81,8 @@ module _ (h : Host) (a : Arrival) (w : RepliesWhen h a) (o : Octets (a .datagram
         octets = ap (take (length (encode labels))) asked-octets ∙ take-at (encode labels) (bigOctets (w .q .qtype) ++ bigOctets (w .q .class)) (length (encode labels)) refl;
       }
 
-  pub same-question : Good (record { name = w .q .name; qtype = w .q .qtype; class = w .q .class; end = 12 + w .q .name + 4 }) ≡ Good (w .q)
-  same-question = ap (λ (e : ℕ). Good (record { name = w .q .name; qtype = w .q .qtype; class = w .q .class; end = e })) (sym (is-question .end))
+  pub same-question : Good (record { name = w .q .name; labels = w .q .labels; qtype = w .q .qtype; class = w .q .class; end = 12 + w .q .name + 4 }) ≡ Good (w .q)
+  same-question = ap (λ (e : ℕ). Good (record { name = w .q .name; labels = w .q .labels; qtype = w .q .qtype; class = w .q .class; end = e })) (sym (is-question .end))
 
   room-is : hasRoom (a .out) 512 asked ≡ true
   room-is = has-room (a .out) 512 asked .1 (w .query .arrives .called .room, asked-short)

@@ -161,7 +161,7 @@ module _ (h : Host) (a : Arrival) (v : RepliesWhen h a) (o : Octets (a .datagram
       ∙ ap (λ (x : List ℕ). take 12 e ++ x) (sym (take-append-drop (v .q .end - 12) (drop 12 e)) ∙ ap (λ (x : List ℕ). x ++ r) part-is) in
       ap (λ (x : List ℕ). questionAt x 12) laid
       ∙ subst (λ (x : ℕ). questionAt (take 12 e ++ (partOf (a .datagram) 12 (v .q .end) ++ r)) x
-      ≡ Good (record { name = v .q .name; qtype = v .q .qtype; class = v .q .class; end = x + v .q .name + 4 })) n
+      ≡ Good (record { name = v .q .name; labels = v .q .labels; qtype = v .q .qtype; class = v .q .class; end = x + v .q .name + 4 })) n
       (question-moves (a .datagram) 12 (v .q) o (is-question h a v o) (take 12 e) r)
       ∙ same-question h a v o
 

@@ -62,7 +62,7 @@ returns-3 c =
     let d = c .before .before .before .before .before .before in
     let e = sym (d .before .before .read-name .ensures) ∙ d .read .given .1 in
     let h = not-past _ _ 4 _ (c .before .before .before .runs-past .ensures) (c .before .before .if1 .left) in
-    ap Good (same-question (c .before .big .ensures) (c .big2 .ensures) refl) ∙ sym (question-good _ _ _ e h)
+    ap Good (same-question refl (c .before .big .ensures) (c .big2 .ensures) refl) ∙ sym (question-good _ _ _ e h)
 
 pub read-question-spec : {M : Type 1} → statement M
 read-question-spec =

@@ -2,12 +2,17 @@
 use mathlib.Core.Path.{_≡_, sym, _∙_}
 use Prim.Native.Nat.{ℕ}
 use mathlib.Core.List.{List}
+use mathlib.Core.Bool.{Bool}
 use lib.ListN.{getD}
 use borrow.Author.Tests.{lt-ltb, le-ltb}
 use Rattle.octets.specs.Addresses.{unused}
 use Rattle.octets.specs.declared.Setting.{Setting}
-use Rattle.refusal.specs.Checks.{next, stop, done}
+use denote.Ref.{now}
+use Rattle.refusal.specs.Checks.{Verdict, Gives, next, stop}
+use Rattle.names.specs.NameWalk.{nameAt}
 use Rattle.host.specs.Early.{noInterface}
+use Rattle.lookup.specs.Start.{nameChecks, startChecks}
+use Rattle.querier.proofs.NameLaws.{name-refused, name-taken}
 use Rattle.querier.proofs.CallLaws.{same-family, same-place, start-refuses, start-accepts}
 use borrow.Author.Needs.{needs}
 use Rattle.querier.proofs.start.Statement.{statement}
@@ -31,6 +36,21 @@ module _ (c : tie.After-is-unused) where
   used-or : noInterface interface (getD settings interface unused .family) ≡ c .is-unused .result
   used-or = sym (c .is-unused .ensures ∙ same-family settings interface place (c .before .before .before .slot .ensures .0))
 
+-- 1, 3 and 4 have passed
+module _ (k : tie.After-check) where
+  abbrev opened : tie.After-is-unused
+  opened = k .before .before .before
+
+  abbrev permission : Bool
+  permission = given opened .args .permission
+
+  abbrev name : List ℕ
+  name = now (given opened .args .name)
+
+  from-10 : {v : Verdict} → Gives (nameChecks permission name (nameAt name 0)) v
+      → Gives (startChecks (settings opened) (interface opened) name permission (given opened .args .time) (now (given opened .args .out))) v
+  from-10 g = next (le-ltb _ _ (opened .before .if1 .left)) (next (used-or opened ∙ k .before .before .if2 .left) (next (le-ltb _ _ (k .before .if3 .left)) g))
+
 slot-requires : tie.Need-slot-requires
 slot-requires c κs = search needs
 
@@ -47,7 +67,7 @@ refuse-requires : tie.Need-refuse-requires
 refuse-requires c κs = search needs
 
 returns : tie.Need-returns
-returns c = rw (c .refuse .ensures, c .before .ended .ensures) (start-refuses _ _ _ _ _ _ _ (stop (lt-ltb _ _ (c .before .before .if1 .taken))))
+returns c = rw (c .refuse .ensures, c .before .ended .ensures) (start-refuses _ _ _ _ _ _ _ _ (stop (lt-ltb _ _ (c .before .before .if1 .taken))))
 
 is-unused-requires : tie.Need-is-unused-requires
 is-unused-requires c κs = search needs
@@ -60,7 +80,7 @@ refuse-requires-2 c κs = search needs
 
 returns-2 : tie.Need-returns-2
 returns-2 c = rw (c .refuse2 .ensures, c .before .ended2 .ensures)
-    (start-refuses _ _ _ _ _ _ _ (next (le-ltb _ _ (c .before .before .before .before .if1 .left)) (stop (used-or (c .before .before .before) ∙ c .before .before .if2 .taken))))
+    (start-refuses _ _ _ _ _ _ _ _ (next (le-ltb _ _ (c .before .before .before .before .if1 .left)) (stop (used-or (c .before .before .before) ∙ c .before .before .if2 .taken))))
 
 ended-requires-3 : tie.Need-ended-requires-3
 ended-requires-3 c κs = search needs
@@ -70,10 +90,10 @@ refuse-requires-3 c κs = search needs
 
 returns-3 : tie.Need-returns-3
 returns-3 c = rw (c .refuse3 .ensures, c .before .ended3 .ensures)
-    (start-refuses _ _ _ _ _ _ _ (next (le-ltb _ _ (c .before .before .before .before .before .if1 .left)) (next (used-or (c .before .before .before .before) ∙ c .before .before .before .if2 .left) (stop (lt-ltb _ _ (c .before .before .if3 .taken))))))
+    (start-refuses _ _ _ _ _ _ _ _ (next (le-ltb _ _ (c .before .before .before .before .before .if1 .left)) (next (used-or (c .before .before .before .before) ∙ c .before .before .before .if2 .left) (stop (lt-ltb _ _ (c .before .before .if3 .taken))))))
 
-is-bad-requires : tie.Need-is-bad-requires
-is-bad-requires c κs = search needs
+check-requires : tie.Need-check-requires
+check-requires c κs = search needs
 
 ended-requires-4 : tie.Need-ended-requires-4
 ended-requires-4 c κs = search needs
@@ -82,9 +102,10 @@ refuse-requires-4 : tie.Need-refuse-requires-4
 refuse-requires-4 c κs = search needs
 
 returns-4 : tie.Need-returns-4
-returns-4 c = rw (c .refuse4 .ensures, c .before .ended4 .ensures)
-    (start-refuses _ _ _ _ _ _ _
-    (next (le-ltb _ _ (c .before .before .before .before .before .before .before .if1 .left)) (next (used-or (c .before .before .before .before .before .before) ∙ c .before .before .before .before .before .if2 .left) (next (le-ltb _ _ (c .before .before .before .before .if3 .left)) (stop (sym (c .before .before .before .is-bad .ensures) ∙ c .before .before .if4 .taken))))))
+returns-4 c =
+    let k = c .before .before .before in
+    rw (c .refuse4 .ensures, c .before .ended4 .ensures)
+    (start-refuses _ _ _ _ _ _ _ _ (from-10 k (name-refused (permission k) (name k) (k .check .result) (k .check .ensures) (c .before .before .if4 .taken))))
 
 slice-aggregate-put-octets : tie.Need-slice-aggregate-put-octets
 slice-aggregate-put-octets c = search needs
@@ -106,11 +127,12 @@ same-length c = search needs
 
 returns-5 : tie.Need-returns-5
 returns-5 c =
-    let u = c .before .before .before .before .before .before .before .before .before .before .before .before .before in
+    let k = c .before .before .before .before .before .before .before .before .before .before in
+    let u = k .before .before .before in
     let w = c .before .before .before .write .ensures in
     rw (c .group-endpoint .ensures, w .0, w .1, c .before .before .before .before .before .asks .ensures, c .before .before .before .before .before .before .before .put-octets .ensures)
-    (start-accepts (settings u) (interface u) _ _ _ _ _ (place u) (same-place (settings u) (interface u) (place u) (u .before .before .before .slot .ensures .0) (sym (u .is-unused .ensures) ∙ c .before .before .before .before .before .before .before .before .before .before .before .before .if2 .left))
-    (next (le-ltb _ _ (c .before .before .before .before .before .before .before .before .before .before .before .before .before .before .if1 .left)) (next (used-or u ∙ c .before .before .before .before .before .before .before .before .before .before .before .before .if2 .left) (next (le-ltb _ _ (c .before .before .before .before .before .before .before .before .before .before .before .if3 .left)) (next (sym (c .before .before .before .before .before .before .before .before .before .before .is-bad .ensures) ∙ c .before .before .before .before .before .before .before .before .before .if4 .left) done)))))
+    (start-accepts (settings u) (interface u) _ _ _ _ _ _ (place u) (same-place (settings u) (interface u) (place u) (u .before .before .before .slot .ensures .0) (sym (u .is-unused .ensures) ∙ k .before .before .if2 .left))
+    (from-10 k (name-taken (permission k) (name k) (k .check .result) (k .check .ensures) (c .before .before .before .before .before .before .before .before .before .if4 .left))))
 
 pub start-spec : {M : Type 1} → statement M
 start-spec =
@@ -129,7 +151,7 @@ start-spec =
     ended-requires-3
     refuse-requires-3
     returns-3
-    is-bad-requires
+    check-requires
     ended-requires-4
     refuse-requires-4
     returns-4

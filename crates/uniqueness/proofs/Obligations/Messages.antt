@@ -9,6 +9,7 @@ use Rattle.octets.specs.Octets.{Octets, octetAt, partOf}
 use Rattle.octets.specs.Words.{bigOctets}
 use Rattle.octets.proofs.Octets.{octets-append}
 use Rattle.names.specs.Names.{Labels, AreLabels, encode}
+use Rattle.names.specs.NameWalk.{labelsOf, nameAt}
 use Rattle.message.specs.Bounds.{headerOctets, classIN, typeANY}
 use Rattle.message.specs.declared.Header.{Header}
 use Rattle.message.specs.declared.HeaderRead.the-variants.{Good as GoodHeader}
@@ -30,7 +31,7 @@ use Rattle.uniqueness.specs.Link.{SameName}
 
 -- the question of a check for the name y, behind the header
 abbrev pub asks : List ℕ → Question
-asks y = record { name = length y; qtype = typeANY; class = classIN; end = headerOctets + length y + 4 }
+asks y = record { name = length y; labels = labelsOf (nameAt y 0); qtype = typeANY; class = classIN; end = headerOctets + length y + 4 }
 
 pub record Reading (b y : List ℕ) (x : Header) : Type 0 where
   pub shortest : headerOctets ≤ length b
