@@ -110,8 +110,8 @@ int main(void)
     }
 
     /* The terminal asks. Its query goes to the group, and so to the indicator. */
-    llmnr_lookup_start_step asked = llmnr_lookup_start(settings_of(terminal.address), 0, scale3, sizeof scale3, TYPE_A, now, fresh_id(),
-                                                       out, sizeof out);
+    llmnr_lookup_start_step asked = llmnr_lookup_start(settings_of(terminal.address), 0, scale3, sizeof scale3, TYPE_A, false, now,
+                                                       fresh_id(), out, sizeof out);
     tell("terminal", "start", asked.outcome, asked.to);
     if (asked.outcome.what != LLMNR_QUERY)
         return 1;

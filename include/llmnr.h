@@ -105,7 +105,8 @@ enum {
     LLMNR_REFUSAL_TENTATIVE = 17,    /* lookup: the sender is still verifying the name */
     LLMNR_REFUSAL_RECORDS = 18,      /* lookup: a bad answer record */
     LLMNR_REFUSAL_BUSY = 19,         /* start of a name that is neither Off nor Stopped */
-    LLMNR_REFUSAL_SETTINGS = 20      /* an interface has a group address, or a bad interval */
+    LLMNR_REFUSAL_SETTINGS = 20,     /* an interface has a group address, or a bad interval */
+    LLMNR_REFUSAL_SEVERAL_LABELS = 22 /* lookup start: the name has several labels, and there is no permission */
 };
 
 /* Fields that an outcome does not use are 0. */
@@ -265,10 +266,13 @@ static inline void llmnr_lookup_take(llmnr_lookup *lookup, llmnr_lookup_step ste
 
 /*
  * Asks on an interface for the records of a type (1 for A, 28 for AAAA) of a name, given as on the wire: "\6scale3", 8 octets with the
- * final zero. QUERY, to be sent from a port of its own; or refused (1, 3, 4, 10), with an ended lookup that is all zero.
+ * final zero. QUERY, to be sent from a port of its own; or refused (1, 3, 4, 10, 22), with an ended lookup that is all zero.
+ *
+ * A name of one label can always be asked for, and so can one or more labels before in-addr.arpa or ip6.arpa. Any other name of two or more
+ * labels, such as scale3.example, is refused with 22 unless permission is true (RFC 4795, section 3).
  */
 llmnr_lookup_start_step llmnr_lookup_start(llmnr_settings settings, size_t interface, const uint8_t *name, size_t name_len, uint16_t qtype,
-                                           uint64_t time, uint16_t id, uint8_t *out, size_t out_len);
+                                           bool permission, uint64_t time, uint16_t id, uint8_t *out, size_t out_len);
 
 /* Takes a datagram that came on the lookup's port: FOUND, PART, or refused. llmnr_record reads the answers. */
 llmnr_lookup_step llmnr_lookup_receive(llmnr_lookup lookup, llmnr_endpoint from, llmnr_address to, const uint8_t *datagram,

@@ -26,7 +26,7 @@ enum { TYPE_A = 1, TYPE_PTR = 12, TYPE_AAAA = 28, TYPE_ANY = 255, CLASS_IN = 1 }
 const char program[] = "ask";
 
 static const char help[] =
-    "usage: ask [-i INTERFACE] [--interval 100|1000] NAME [TYPE]\n"
+    "usage: ask [-i INTERFACE] [--interval 100|1000] [--several] NAME [TYPE]\n"
     "\n"
     "Asks the hosts on the link for a name by LLMNR (RFC 4795), and prints a line for each record: its type, its data, and\n"
     "the address of the host that sent it. Without TYPE it asks by IPv4 for A and by IPv6 for AAAA; with TYPE (A, AAAA,\n"
@@ -35,6 +35,8 @@ static const char help[] =
     "  -i INTERFACE   ask there (usual: the first network interface that has a link and an address)\n"
     "  --interval MS  wait so long before asking again; three questions are asked. 100 (usual; what RFC 4795 gives for\n"
     "                 Ethernet and WLAN) or 1000 (what it gives for all kinds of links)\n"
+    "  --several      NAME may have several labels, such as scale3.example. Without it only a name of one label is asked\n"
+    "                 for (RFC 4795, section 3), or one or more labels before in-addr.arpa or ip6.arpa\n"
     "\n"
     "Of a name that several hosts share all answers are printed. While a host answers that it does not yet own the name,\n"
     "ask goes on asking for some time. A name that only this machine itself answers for is not found.\n"
@@ -60,6 +62,7 @@ typedef struct asker {
     uint8_t name[LLMNR_LONGEST];
     size_t name_len;
     int type; /* -1: A or AAAA, by family */
+    bool several; /* the name may have several labels */
     llmnr_settings settings;
     question questions[FAMILIES];
     size_t count;
@@ -182,9 +185,11 @@ static void act(const asker *me, question *q, const llmnr_lookup_step *step)
 
 static void start(asker *me, question *q)
 {
-    llmnr_lookup_start_step step = llmnr_lookup_start(me->settings, q->number, me->name, me->name_len, q->type, net_time(), fresh_id(),
-                                                      me->out, sizeof me->out);
+    llmnr_lookup_start_step step = llmnr_lookup_start(me->settings, q->number, me->name, me->name_len, q->type, me->several, net_time(),
+                                                      fresh_id(), me->out, sizeof me->out);
 
+    if (step.outcome.refusal == LLMNR_REFUSAL_SEVERAL_LABELS)
+        fail(FAILED, "%s: a name of several labels is asked for with --several", me->text);
     if (step.outcome.what == LLMNR_REFUSED)
         fail(FAILED, "%s: the library refused the lookup with %d", me->text, step.outcome.refusal);
     q->lookup = step.lookup;
@@ -304,6 +309,8 @@ static void read_arguments(asker *me, int argc, char **argv)
             exit(0);
         } else if (strcmp(argv[at], "-i") == 0 && at + 1 < argc) {
             me->port = argv[++at];
+        } else if (strcmp(argv[at], "--several") == 0) {
+            me->several = true;
         } else if (strcmp(argv[at], "--interval") == 0) {
             me->interval = words_to_interval(argv[++at]);
             if (me->interval == 0)

@@ -228,12 +228,28 @@ static llmnr_lookup_step answered(llmnr_lookup l, uint16_t flags, uint8_t answer
     return llmnr_lookup_receive(l, lower, ours, response, sizeof response, time, 7, out, sizeof out);
 }
 
+/* the outcome of a lookup of a name of several labels */
+static llmnr_outcome asked(const uint8_t *name, size_t len, bool permission)
+{
+    return llmnr_lookup_start(settings(), 1, name, len, 1, permission, 4, 0x1234, out, sizeof out).outcome;
+}
+
+static void several(void)
+{
+    static const uint8_t two[] = "\1f\1f", reverse[] = "\1f\3Ip6\4aRPA", none[] = "\3ip6\4arpa";
+    CHECK(refused(asked(two, sizeof two, false), LLMNR_REFUSAL_SEVERAL_LABELS));
+    CHECK(says(asked(two, sizeof two, true), LLMNR_QUERY));
+    CHECK(says(asked(reverse, sizeof reverse, false), LLMNR_QUERY));
+    CHECK(refused(asked(none, sizeof none, false), LLMNR_REFUSAL_SEVERAL_LABELS));
+}
+
 static void lookups(void)
 {
     static const uint8_t name[] = {1, 'f', 0};
-    llmnr_lookup_start_step started = llmnr_lookup_start(settings(), 1, name, 2, 1, 4, 0x1234, out, sizeof out);
+    llmnr_lookup_start_step started = llmnr_lookup_start(settings(), 1, name, 2, 1, false, 4, 0x1234, out, sizeof out);
     CHECK(refused(started.outcome, LLMNR_REFUSAL_QUESTION) && started.lookup.phase == LLMNR_PHASE_ENDED);
-    started = llmnr_lookup_start(settings(), 1, name, sizeof name, 1, 4, 0x1234, out, sizeof out);
+    several();
+    started = llmnr_lookup_start(settings(), 1, name, sizeof name, 1, false, 4, 0x1234, out, sizeof out);
     CHECK(says(started.outcome, LLMNR_QUERY) && started.outcome.len == QUERY && started.to.port == LLMNR_PORT);
     const llmnr_lookup asking = started.lookup;
     llmnr_lookup l = asking;

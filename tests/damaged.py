@@ -48,7 +48,7 @@ FORMS = {
     "datagram": rf"reply {SENT}|query {SENT} name=\d+|(stopped|kept) name=\d+|{BAD_TABLE}|refused no=(1|[3-9]|1[0-6])",
     "tick": rf"query {SENT} name=\d+|unique name=\d+|quiet|{BAD_TABLE}|refused no=(1|3|4)",
     "settings": "",
-    "ask": rf"query {SENT}|refused no=(1|3|4|10)",
+    "ask": rf"query {SENT}|refused no=(1|3|4|10|22)",
     "answer": r"(part|found) at=\d+ an=\d+|refused no=(1|[3-9]|10|1[5-8])",
     "ask-tick": rf"query {SENT}|found|none|quiet|refused no=(1|4)",
     "name": r"bad|next=\d+ pointers=\d+ labels=\d+ name=([0-9a-f]{2})+",

@@ -29,8 +29,8 @@ void llmnr_receive(llmnr_step *, llmnr_settings, uint64_t, llmnr_names, const ui
                    const uint8_t *, size_t, uint64_t, uint16_t, uint8_t *, size_t);
 void llmnr_tick(llmnr_step *, llmnr_settings, uint64_t, llmnr_names, const uint8_t *, size_t, size_t, uint64_t, uint16_t, uint8_t *,
                 size_t);
-void llmnr_lookup_start(llmnr_lookup_start_step *, llmnr_settings, size_t, const uint8_t *, size_t, uint16_t, uint64_t, uint16_t, uint8_t *,
-                        size_t);
+void llmnr_lookup_start(llmnr_lookup_start_step *, llmnr_settings, size_t, const uint8_t *, size_t, uint16_t, bool, uint64_t, uint16_t,
+                        uint8_t *, size_t);
 void llmnr_lookup_receive(llmnr_lookup_step *, llmnr_lookup, llmnr_endpoint, llmnr_address, const uint8_t *, size_t, uint64_t, uint16_t,
                           uint8_t *, size_t);
 void llmnr_lookup_tick(llmnr_lookup_step *, llmnr_lookup, uint64_t, uint16_t, uint8_t *, size_t);
@@ -62,7 +62,7 @@ int main(void)
     s.interfaces[0].family = 4;
     s.interfaces[0].interval = 100;
     n.names[0].state = LLMNR_STATE_VERIFYING;
-    llmnr_lookup_start(&asked, s, 0, query + 12, 3, 1, 0, 1, out, sizeof out);
+    llmnr_lookup_start(&asked, s, 0, query + 12, 3, 1, false, 0, 1, out, sizeof out);
     for (unsigned turn = 0; turn < 2; turn++) {
         const uint8_t fill = turn == 0 ? 0xA5 : 0x5A;
         ENDS(llmnr_set_up_step, llmnr_set_up(&r.result, table, sizeof table, s, 0, 0), r.result.outcome.what == LLMNR_READY);
@@ -71,9 +71,9 @@ int main(void)
              r.result.outcome.what == LLMNR_REPLY);
         ENDS(llmnr_step, llmnr_tick(&r.result, s, 0, n, table, sizeof table, 0, 0, 0, out, sizeof out), r.result.changed);
         ENDS(llmnr_step, llmnr_tick(&r.result, s, 0, n, table, sizeof table, 0, 0, 0, NULL, 0), !r.result.changed);
-        ENDS(llmnr_lookup_start_step, llmnr_lookup_start(&r.result, s, 0, query + 12, 3, 1, 0, 1, out, sizeof out),
+        ENDS(llmnr_lookup_start_step, llmnr_lookup_start(&r.result, s, 0, query + 12, 3, 1, false, 0, 1, out, sizeof out),
              r.result.outcome.what == LLMNR_QUERY);
-        ENDS(llmnr_lookup_start_step, llmnr_lookup_start(&r.result, s, 0, NULL, 0, 1, 0, 1, NULL, 0),
+        ENDS(llmnr_lookup_start_step, llmnr_lookup_start(&r.result, s, 0, NULL, 0, 1, false, 0, 1, NULL, 0),
              r.result.outcome.what == LLMNR_REFUSED);
         ENDS(llmnr_lookup_step,
              llmnr_lookup_receive(&r.result, asked.lookup, from, ours, response, sizeof response, 0, 0, out, sizeof out),

@@ -68,7 +68,7 @@ static void settings(void)
         s.interfaces[i].interval = i == 0 ? 100 : 1000;
     }
     llmnr_set_up_step h = llmnr_set_up(NULL, 0, s, 77, 0);
-    llmnr_lookup_start_step l = llmnr_lookup_start(s, 2, (const uint8_t *)"\1a", 3, 28, 78, 79, out, sizeof out);
+    llmnr_lookup_start_step l = llmnr_lookup_start(s, 2, (const uint8_t *)"\1a", 3, 28, false, 78, 79, out, sizeof out);
     CHECK(h.outcome.what == LLMNR_READY && h.host.clock == 77);
     CHECK(l.outcome.what == LLMNR_QUERY && l.lookup.clock == 78 && l.lookup.interface == 2);
     for (unsigned i = 0; i < LLMNR_INTERFACES; i++) {

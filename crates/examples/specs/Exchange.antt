@@ -3,6 +3,7 @@
 use Prim.Native.Nat.{ℕ}
 use mathlib.Core.Path.{_≡_}
 use mathlib.Core.List.{List, [], _∷_, _++_}
+use mathlib.Core.Bool.{false}
 use lib.ListN.{take, replicate}
 use Rattle.octets.specs.Addresses.{groupOf}
 use Rattle.octets.specs.declared.Address.{Address}
@@ -25,9 +26,9 @@ use Rattle.examples.specs.Cases.{scale3, S, buffer, host, verifying, que
 abbrev pub settings : List Setting
 settings = record { family = 4; address = querier .address .octets; interval = 100 } ∷ replicate 3 zeroSetting
 
--- it asks for type 1 at time 8, with ID 12 34
+-- it asks for type 1 without permission, at time 8, with ID 12 34
 abbrev pub asked : Done
-asked = start settings 0 scale3 1 8 0x1234 buffer
+asked = start settings 0 scale3 1 false 8 0x1234 buffer
 
 -- what the host gives, with the name in some state
 abbrev pub replied : NameState → HostDone

@@ -8,7 +8,7 @@ use lib.ListN.{length, length-map}
 use Rattle.octets.specs.declared.Setting.{Setting}
 use Rattle.refusal.specs.Numbers.{reportOf}
 use Rattle.refusal.specs.declared.Refusal.{Refusal}
-use Rattle.refusal.specs.declared.Refusal.the-variants.{Room, Table, Interface, Clock, Length, Address, Opcode, Rcode, Counts, Question, Class, NotOurs, Stopped, Notification, Unmatched, Own, Tentative, Records, Busy, Settings}
+use Rattle.refusal.specs.declared.Refusal.the-variants.{Room, Table, Interface, Clock, Length, Address, Opcode, Rcode, Counts, Question, Class, NotOurs, Stopped, Notification, Unmatched, Own, Tentative, Records, Busy, Settings, SeveralLabels}
 use Rattle.host.specs.Outcomes.{resultOf}
 use Rattle.host.specs.declared.NameState.{NameState}
 use Rattle.host.specs.declared.NameState.the-variants.{Off, Verifying, Unique, Defending, Stopped as StoppedState, Shared}
@@ -89,6 +89,7 @@ report-back Tentative = refl
 report-back Records = refl
 report-back Busy = refl
 report-back Settings = refl
+report-back SeveralLabels = refl
 
 pub outcome-back : (o : Outcome) → resultFrom (flatOutcome (resultOf o)) ≡ resultOf o
 outcome-back (Refused r) = rw (report-back r)

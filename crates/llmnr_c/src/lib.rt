@@ -138,21 +138,31 @@ pub extern "C" fn llmnr_tick(
     flat::step(served::tick(setting, clock, k, n, table, interface, time, id, out))
 }
 
-// Starts a lookup of a name.
+// Starts a lookup of a name. The permission is for names of several labels.
 #[no_mangle]
 pub extern "C" fn llmnr_lookup_start(
     settings: FlatSettings,
     interface: usize,
     name: &[u8],
     qtype: u16,
+    permission: bool,
     time: u64,
     id: u16,
     out: &mut [u8],
 ) -> FlatLookupStart
-    ensures { λ r. ⌜ lookupStarted r (now (out .exit)) ≡ lookupStart (lookupStartOf (settings .interfaces) interface (now (name .entry)) qtype time id (now (out .entry))) ⌝ }
+    ensures { λ r. ⌜ lookupStarted r (now (out .exit)) ≡ lookupStart (lookupStartOf (settings .interfaces) interface (now (name .entry)) qtype permission time id (now (out .entry))) ⌝ }
 {
     let interfaces = settings.interfaces;
-    flat_lookup::flat_start(querier::start(interfaces, interface, name, qtype, time, id, out))
+    flat_lookup::flat_start(querier::start(
+        interfaces,
+        interface,
+        name,
+        qtype,
+        permission,
+        time,
+        id,
+        out,
+    ))
 }
 
 // Takes a datagram that came from an address and port to an address.

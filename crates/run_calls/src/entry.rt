@@ -1,7 +1,9 @@
 // Entries of a call file: where each stands, and what its body says. All integers are little-endian.
 ghost use mathlib.Core.Path.{_≡_};
+ghost use mathlib.Core.Bool.{not};
 ghost use Prim.Native.Nat.{min, _<_};
 ghost use lib.ListN.{length};
+ghost use lib.Dec.{eqb};
 ghost use Rattle.octets.specs.Octets.{octetAt, partOf};
 ghost use Rattle.octets.specs.Words.{littleAt};
 ghost use Rattle.run_calls.specs.Entries.{slots, kindOf, isUnknown, isSized, isSlot, isOfLookup, entryAt, lentBy, little32At, little64At, prefixOf, addressOctets, addressAt, settingAt, settingsOf, sourceOf, slotOf};
@@ -311,7 +313,14 @@ pub fn slot(body: &[u8]) -> usize
     if k < Entry::SLOTS { k } else { 0 }
 }
 
-// The type that is looked up; before it stand the slot and the permission, which is not read.
+// Whether a lookup may ask for a name of several labels: the octet after the slot is not 0.
+pub fn permission(body: &[u8]) -> bool
+    ensures { λ r. ⌜ r ≡ not (eqb (octetAt (now (body .entry)) 16) 0) ⌝ }
+{
+    octets::octet(body, 16) != 0
+}
+
+// The type that is looked up.
 pub fn asked_type(body: &[u8]) -> u16
     ensures { λ r. ⌜ r ≡ littleAt (now (body .entry)) 17 ⌝ }
 {

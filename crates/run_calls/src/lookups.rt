@@ -75,7 +75,8 @@ fn call(
             let interface = p.interface as usize;
             let name = entry::asked_name(body);
             let qtype = entry::asked_type(body);
-            querier::start(settings, interface, name, qtype, p.time, p.id, out)
+            let permission = entry::permission(body);
+            querier::start(settings, interface, name, qtype, permission, p.time, p.id, out)
         }
         Kind::Answer => {
             let arrival = entry::after_slot(body);
