@@ -51,11 +51,25 @@ pub struct Lookup {
     calls: Vec<Accepted>,
 }
 
-/// What the checks of a lookup's start or tick look at.
+/// What a start is given beside its prefix and the settings.
+pub struct Asked<'a> {
+    pub permission: u8,
+    pub qtype: u16,
+    pub name: &'a [u8],
+}
+
+/// The labels of a start's name, and whether the name is good: not the root, and with nothing left over.
+struct AskedName {
+    labels: Labels,
+    good: bool,
+}
+
+/// What the checks of a lookup's start look at.
 struct AskView<'a> {
     given: Given<'a>,
-    /// The name of a start, if it is good.
-    name: Option<&'a Labels>,
+    /// None if the octets begin with no name.
+    name: Option<&'a AskedName>,
+    permission: u8,
 }
 
 /// What the checks of a datagram to a lookup look at.
@@ -66,16 +80,18 @@ struct AnswerView<'a> {
 }
 
 type AskCheck = (u8, fn(&AskView) -> bool);
+type TickCheck = (u8, fn(&Given) -> bool);
 type AnswerCheck = (u8, fn(&AnswerView) -> bool);
 
 const ASK: &[AskCheck] = &[
     (1, |call| call.given.no_room()),
     (3, |call| call.given.no_interface()),
     (4, |call| call.given.wrong_time()),
-    (10, |call| call.name.is_none()),
+    (10, |call| !call.name.is_some_and(|name| name.good)),
+    (22, |call| call.name.is_some_and(|name| is_several(&name.labels, call.permission, call.given.fault))),
 ];
 
-const ASK_TICK: &[AskCheck] = &[(1, |call| call.given.no_room()), (4, |call| call.given.wrong_time())];
+const ASK_TICK: &[TickCheck] = &[(1, |given| given.no_room()), (4, |given| given.wrong_time())];
 
 const ANSWER: &[AnswerCheck] = &[
     (1, |call| call.given.no_room()),
@@ -104,17 +120,19 @@ impl Lookup {
     pub fn start(
         settings: &[Setting; 4],
         prefix: &Prefix,
-        qtype: u16,
-        name: &[u8],
+        asked: &Asked,
         fault: Fault,
     ) -> Result<(Lookup, Outcome), Outcome> {
         let setting = interfaces::setting(settings, prefix.interface);
         let given = Given { fault, prefix, settings, setting, earliest: 0 };
-        let labels = asked_name(name, fault);
-        if let Some(no) = first(ASK, &AskView { given, name: labels.as_ref() }, 0) {
+        let name = asked_name(asked.name, fault);
+        let view = AskView { given, name: name.as_ref(), permission: asked.permission };
+        let last = if fault == faults::SEVERAL_BEFORE_QUESTION { 10 } else { 0 };
+        if let Some(no) = first(ASK, &view, last) {
             return Err(Outcome::Refused { no, at: None });
         }
-        let question = Question { name: labels.unwrap_or_default(), qtype, class: CLASS_IN };
+        let labels = name.map_or(Labels::new(), |name| name.labels);
+        let question = Question { name: labels, qtype: asked.qtype, class: CLASS_IN };
         let lookup = Lookup {
             settings: *settings,
             interface: prefix.interface,
@@ -146,7 +164,7 @@ impl Lookup {
     }
 
     pub fn tick(&mut self, prefix: &Prefix, fault: Fault) -> Outcome {
-        if let Some(no) = first(ASK_TICK, &AskView { given: self.given(prefix, fault), name: None }, 0) {
+        if let Some(no) = first(ASK_TICK, &self.given(prefix, fault), 0) {
             return Outcome::Refused { no, at: None };
         }
         self.clock = prefix.time;
@@ -213,9 +231,58 @@ impl Lookup {
     }
 }
 
-/// The name that a start is given: not the root, and with nothing left over.
-fn asked_name(octets: &[u8], fault: Fault) -> Option<Labels> {
+fn asked_name(octets: &[u8], fault: Fault) -> Option<AskedName> {
     let (labels, next) = names::read_plain(octets, 0)?;
     let whole = next == octets.len() || fault == faults::LOOKUP_LEFT_OVER;
-    (whole && !labels.is_empty()).then_some(labels)
+    let good = whole && !labels.is_empty();
+    Some(AskedName { labels, good })
+}
+
+/// RFC 4795, section 3: without permission, only a name of one label or one that stands for an address is asked for.
+fn is_several(labels: &Labels, permission: u8, fault: Fault) -> bool {
+    let permitted = match fault {
+        faults::PERMISSION_INVERTED => permission == 0,
+        faults::PERMISSION_1 => permission == 1,
+        _ => permission != 0,
+    };
+    let most = if fault == faults::SEVERAL_3 { 2 } else { 1 };
+    labels.len() > most && !permitted && !names::is_reverse(labels, fault)
+}
+
+#[cfg(test)]
+mod tests {
+    use super::*;
+
+    /// The refusal of a start with this permission, name, time and room; 0 if it is accepted.
+    fn refusal(permission: u8, name: &[u8], time: u64, room: u32, fault: Fault) -> u8 {
+        let mut settings = [Setting::UNUSED; 4];
+        settings[0].address.family = 4;
+        let prefix = Prefix { interface: 0, time, id: 1, room };
+        match Lookup::start(&settings, &prefix, &Asked { permission, qtype: 1, name }, fault) {
+            Err(Outcome::Refused { no, .. }) => no,
+            _ => 0,
+        }
+    }
+
+    #[test]
+    fn several_labels_need_permission() {
+        let asked = |permission, name| refusal(permission, name, 0, 512, faults::NONE);
+        assert_eq!([0, 1, 255].map(|permission| asked(permission, b"\x01a\0")), [0; 3]);
+        assert_eq!([0, 1, 2, 255].map(|permission| asked(permission, b"\x01a\x01b\0")), [22, 0, 0, 0]);
+        assert_eq!([0, 1].map(|permission| asked(permission, b"\x01a\x03Ip6\x04arpA\0")), [0; 2]);
+        assert_eq!([0, 1].map(|permission| asked(permission, b"\x03ip6\x04arpa\0")), [22, 0]);
+        assert_eq!([0, 1].map(|permission| asked(permission, b"\x01a\x01b\0\0")), [10; 2]);
+        assert_eq!(asked(0, b"\x0ax\x03ip6\x04arpa\0"), 0);
+    }
+
+    #[test]
+    fn several_labels_are_looked_at_last() {
+        let several = b"\x01a\x01b\0";
+        assert_eq!(refusal(0, several, 1 << 48, 511, faults::NONE), 1);
+        assert_eq!(refusal(0, several, 1 << 48, 512, faults::NONE), 4);
+        assert_eq!(refusal(0, b"\x01a\x01b\0\0", 0, 512, faults::SEVERAL_BEFORE_QUESTION), 22);
+        assert_eq!(refusal(0, several, 0, 512, faults::SEVERAL_3), 0);
+        assert_eq!([0, 1].map(|no| refusal(no, several, 0, 512, faults::PERMISSION_INVERTED)), [0, 22]);
+        assert_eq!([1, 2].map(|no| refusal(no, several, 0, 512, faults::PERMISSION_1)), [0, 22]);
+    }
 }

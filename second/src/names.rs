@@ -9,6 +9,9 @@ const LONGEST_NAME: usize = 255;
 const LONGEST_LABEL: usize = 63;
 const MOST_POINTERS: usize = 16;
 const HEADER: usize = 12;
+/// The last label of a name that stands for an address, and those that may stand before it.
+const ARPA: &[u8] = b"arpa";
+const BEFORE_ARPA: [&[u8]; 2] = [b"in-addr", b"ip6"];
 
 /// A name that was read from a message, where pointers may stand in it.
 #[derive(Clone, PartialEq, Eq, Debug)]
@@ -139,6 +142,40 @@ fn equal_labels(one: &[u8], other: &[u8], fault: Fault) -> bool {
     one.len() == other.len() && one.iter().zip(other).all(|(one, other)| fold(*one, fault) == fold(*other, fault))
 }
 
+/// Whether a name is one or more labels and then in-addr.arpa or ip6.arpa, letter case apart.
+pub fn is_reverse(labels: &Labels, fault: Fault) -> bool {
+    let before = usize::from(fault != faults::REVERSE_ALONE);
+    let mut pairs = labels.windows(2).skip(before);
+    match fault {
+        faults::REVERSE_BY_OCTETS => ends_in_octets(labels),
+        faults::REVERSE_LABEL_AFTER => pairs.any(|pair| is_reverse_end(pair, fault)),
+        _ => pairs.last().is_some_and(|pair| is_reverse_end(pair, fault)),
+    }
+}
+
+fn is_reverse_end(pair: &[Vec<u8>], fault: Fault) -> bool {
+    let known = BEFORE_ARPA.len() - usize::from(fault == faults::REVERSE_IN_ADDR_ONLY);
+    let before = BEFORE_ARPA[..known].iter().any(|wanted| is_label(&pair[0], wanted, fault));
+    (before || fault == faults::REVERSE_ARPA) && is_label(&pair[1], ARPA, fault)
+}
+
+fn is_label(label: &[u8], wanted: &[u8], fault: Fault) -> bool {
+    match fault {
+        faults::REVERSE_EXACT_LETTERS => label == wanted,
+        faults::REVERSE_END_OF_LABEL => label.to_ascii_lowercase().ends_with(wanted),
+        _ => equal_labels(label, wanted, fault),
+    }
+}
+
+/// What a planted fault asks: whether the last octets of a name are those of in-addr.arpa or ip6.arpa.
+fn ends_in_octets(labels: &Labels) -> bool {
+    let octets = encode(labels).to_ascii_lowercase();
+    BEFORE_ARPA.iter().any(|before| {
+        let end = encode(&vec![before.to_vec(), ARPA.to_vec()]);
+        octets.ends_with(&end) && octets.len() > end.len()
+    })
+}
+
 fn fold(octet: u8, fault: Fault) -> u8 {
     match octet {
         90 if fault == faults::FOLD_NOT_Z => octet,
@@ -157,6 +194,41 @@ mod tests {
         let name = |octet: u8| vec![vec![octet]];
         assert!(equal(&name(b'A'), &name(b'a'), faults::NONE) && equal(&name(b'Z'), &name(b'z'), faults::NONE));
         assert!(!equal(&name(b'@'), &name(b'`'), faults::NONE) && !equal(&name(b'['), &name(b'{'), faults::NONE));
+    }
+
+    fn reverse(dotted: &str, fault: Fault) -> bool {
+        is_reverse(&dotted.split('.').map(|label| label.as_bytes().to_vec()).collect(), fault)
+    }
+
+    #[test]
+    fn names_of_addresses_end_in_two_whole_labels() {
+        for name in ["4.3.2.1.in-addr.arpa", "X.IP6.ARPA", "a.In-Addr.aRPA", "arpa.ip6.arpa", "\0.ip6.arpa"] {
+            assert!(reverse(name, faults::NONE), "{name}");
+        }
+        let alone = ["in-addr.arpa", "ip6.arpa", "arpa", "a", "a.arpa", "xin-addr.arpa", "a.in-addr"];
+        let within = ["a.xip6.arpa", "a.ip6x.arpa", "a.ip6.xarpa", "a.ip6.arp", "a.in\raddr.arpa", "a.in-addr.ip6"];
+        let beside = ["a.ip6.arpa.b", "a.ip6.b.arpa", "a.arpa.ip6"];
+        let octets = ["x\x03ip6\x04arpa", "a.x\x03ip6\x04arpa", "a.x\x03ip6.arpa", "a.\x03ip6\x04arpa"];
+        for name in [&alone[..], &within, &beside, &octets].concat() {
+            assert!(!reverse(name, faults::NONE), "{name:?}");
+        }
+    }
+
+    #[test]
+    fn faults_change_which_names_are_of_addresses() {
+        assert!(
+            reverse("a.x\x03IP6.arpa", faults::REVERSE_BY_OCTETS) && !reverse("ip6.arpa", faults::REVERSE_BY_OCTETS)
+        );
+        assert!(reverse("IP6.arpa", faults::REVERSE_ALONE) && !reverse("ip6", faults::REVERSE_ALONE));
+        assert!(
+            reverse("a.ip6.arpa.b", faults::REVERSE_LABEL_AFTER)
+                && reverse("a.xIP6.arpa", faults::REVERSE_END_OF_LABEL)
+        );
+        assert!(reverse("a.b.arpa", faults::REVERSE_ARPA) && !reverse("a.b.c", faults::REVERSE_ARPA));
+        assert!(
+            !reverse("a.iP6.arpa", faults::REVERSE_EXACT_LETTERS)
+                && !reverse("a.ip6.arpa", faults::REVERSE_IN_ADDR_ONLY)
+        );
     }
 
     #[test]

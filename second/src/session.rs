@@ -5,7 +5,7 @@ use crate::checks::Arrival;
 use crate::faults::{self, Fault};
 use crate::host::Host;
 use crate::lines::{end_line, line, Outcome};
-use crate::lookup::Lookup;
+use crate::lookup::{Asked, Lookup};
 use crate::names;
 use crate::table::Lent;
 
@@ -40,7 +40,9 @@ impl Session {
                 self.settings = Some(*settings);
                 Outcome::Settings
             }
-            Call::Ask { prefix, slot, qtype, name, .. } => self.ask(prefix, *slot, *qtype, name),
+            Call::Ask { prefix, slot, permission, qtype, name } => {
+                self.ask(prefix, *slot, &Asked { permission: *permission, qtype: *qtype, name })
+            }
             Call::Answer { prefix, slot, source, port, destination, octets, .. } => {
                 let arrival = Arrival::new(source, *port, destination, octets, fault);
                 self.lookup(*slot).receive(prefix, &arrival, fault)
@@ -76,9 +78,9 @@ impl Session {
     }
 
     /// A refused start of a lookup replaces the slot's too.
-    fn ask(&mut self, prefix: &Prefix, slot: u8, qtype: u16, name: &[u8]) -> Outcome {
+    fn ask(&mut self, prefix: &Prefix, slot: u8, asked: &Asked) -> Outcome {
         let settings = self.settings.unwrap_or(self.host.settings);
-        match Lookup::start(&settings, prefix, qtype, name, self.fault) {
+        match Lookup::start(&settings, prefix, asked, self.fault) {
             Ok((lookup, query)) => {
                 *self.lookup(slot) = lookup;
                 query

@@ -2,10 +2,12 @@
 //! refusal that the rules provide for must be reached, and no other.
 
 use crate::calls::{read, Call};
+use crate::faults;
+use crate::names::{is_reverse, read_plain};
 use std::collections::BTreeMap;
 
 /// Calls with the outcomes and refusal numbers that the rules' orders of checks give. Datagrams go by their QR bit.
-const EXPECTED: [(&str, &str); 15] = [
+const EXPECTED: [(&str, &str); 16] = [
     ("table", "good 2"),
     ("set-up", "ready 2 4 20"),
     ("start", "shared query 1 2 3 4 12 19"),
@@ -13,13 +15,19 @@ const EXPECTED: [(&str, &str); 15] = [
     ("datagram, a response", "stopped kept 1 2 3 4 5 6 7 8 9 10 15 16"),
     ("tick", "query unique quiet 1 2 3 4"),
     ("settings", "taken"),
-    ("ask", "query 1 3 4 10"),
+    ("ask", "query 1 3 4 10 22"),
     ("answer, a query", "1 3 4 5 15"),
     ("answer, a response", "part found 1 3 4 5 6 7 8 9 10 15 16 17 18"),
     ("ask-tick", "query found none quiet 1 4"),
     ("name", "read bad"),
     ("end", "cut short kind size long"),
     ("of note: replies", "TC T C empty 24-answers 512-octets 511-octets class-255 any-type any-type-TC"),
+    (
+        "of note: asks",
+        "one-unpermitted several-permitted permission-2 permission-255 127-permitted reverse-unpermitted reverse-upper \
+         reverse-124 two-refused 127-refused in-addr.arpa-refused ip6.arpa-refused octets-refused label-end-refused \
+         label-after-refused only-arpa-refused several-bad",
+    ),
     (
         "of note: others",
         "4096-octet-table 4096-refused 8-names no-names 9194-octets last-time class-255-defence found-0 found-many \
@@ -129,6 +137,37 @@ fn of_note_in_reply(line: &Line) -> Vec<&'static str> {
     named.iter().filter(|(_, is)| *is).map(|(name, _)| *name).collect()
 }
 
+/// What is worth counting in the start of a lookup: its permission, how many labels its name has, and how it ends.
+fn of_note_in_ask(line: &Line, call: Option<&Call>) -> Vec<&'static str> {
+    let Some(Call::Ask { permission, name, .. }) = call else { return Vec::new() };
+    let labels = read_plain(name, 0).map(|(labels, _)| labels).unwrap_or_default();
+    let (count, ends) = (labels.len(), |fault| is_reverse(&labels, fault));
+    let (reverse, unpermitted, refused) = (ends(faults::NONE), *permission == 0, line.outcome() == "22");
+    let several = count > 1 && !reverse;
+    let permitted = |value: u8| line.what == "query" && several && *permission == value;
+    let passed = line.what == "query" && reverse && unpermitted;
+    let named = [
+        ("one-unpermitted", line.what == "query" && unpermitted && count == 1),
+        ("several-permitted", permitted(1)),
+        ("permission-2", permitted(2)),
+        ("permission-255", permitted(255)),
+        ("127-permitted", permitted(1) && count == 127),
+        ("reverse-unpermitted", passed),
+        ("reverse-upper", passed && labels.last().is_some_and(|label| label == b"ARPA")),
+        ("reverse-124", passed && count == 124),
+        ("two-refused", refused && count == 2),
+        ("127-refused", refused && count == 127),
+        ("in-addr.arpa-refused", refused && name.eq_ignore_ascii_case(b"\x07in-addr\x04arpa\0")),
+        ("ip6.arpa-refused", refused && name.eq_ignore_ascii_case(b"\x03ip6\x04arpa\0")),
+        ("octets-refused", refused && ends(faults::REVERSE_BY_OCTETS)),
+        ("label-end-refused", refused && ends(faults::REVERSE_END_OF_LABEL)),
+        ("label-after-refused", refused && ends(faults::REVERSE_LABEL_AFTER)),
+        ("only-arpa-refused", refused && ends(faults::REVERSE_ARPA)),
+        ("several-bad", line.outcome() == "10" && several && unpermitted),
+    ];
+    named.iter().filter(|(_, is)| *is).map(|(name, _)| *name).collect()
+}
+
 fn of_note(line: &Line, call: Option<&Call>) -> Vec<&'static str> {
     let accepted = line.what != "refused" && line.what != "bad";
     let lent = match call {
@@ -191,6 +230,7 @@ impl Tally {
             if line.what == "reply" {
                 of_note_in_reply(&line).into_iter().for_each(|note| self.count("of note: replies", note));
             }
+            of_note_in_ask(&line, call).into_iter().for_each(|note| self.count("of note: asks", note));
             of_note(&line, call).into_iter().for_each(|note| self.count("of note: others", note));
             if let Some(note) = before.and_then(|before| of_note_in_pair(&before, &line)) {
                 self.count("of note: others", note);
@@ -272,6 +312,23 @@ mod tests {
         assert_eq!(notes(127, 16), ["16-pointers", "127-labels-16-pointers"]);
         assert!(notes(126, 0).is_empty() && notes(127, 2).is_empty());
         assert!(of_note(&Line::read("0 name bad"), None).is_empty());
+    }
+
+    #[test]
+    fn asks_are_looked_into() {
+        let notes = |permission, name: &[u8], rest| {
+            let prefix = Prefix { interface: 0, time: 0, id: 0, room: 512 };
+            let call = Call::Ask { prefix, slot: 0, permission, qtype: 1, name: name.to_vec() };
+            of_note_in_ask(&Line::read(&format!("0 ask if=0 t=0 id=0 {rest}")), Some(&call))
+        };
+        assert_eq!(notes(0, b"\x01a\0", "query to=4/00/1 len=1 hex=00"), ["one-unpermitted"]);
+        assert_eq!(notes(255, b"\x01a\x01b\0", "query to=4/00/1 len=1 hex=00"), ["permission-255"]);
+        let reverse = b"\x01a\x03Ip6\x04ARPA\0";
+        assert_eq!(notes(0, reverse, "query to=4/00/1 len=1 hex=00"), ["reverse-unpermitted", "reverse-upper"]);
+        assert!(notes(1, reverse, "query to=4/00/1 len=1 hex=00").is_empty());
+        assert_eq!(notes(0, b"\x03iP6\x04arpa\0", "refused no=22"), ["two-refused", "ip6.arpa-refused"]);
+        assert_eq!(notes(0, b"\x01a\x01b\0\0", "refused no=10"), ["several-bad"]);
+        assert!(notes(0, b"\x01a\0\0", "refused no=10").is_empty());
     }
 
     #[test]

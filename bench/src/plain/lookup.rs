@@ -36,6 +36,9 @@ pub fn start(lookup: &mut Lookup, asked: &Asked, out: &mut [u8]) -> Served {
     if asked.name.len() < 2 || !names::is_whole(asked.name) {
         return Err(Refusal::Question);
     }
+    if !asked.permitted && !names::is_single(asked.name) && !names::is_reverse(asked.name) {
+        return Err(Refusal::SeveralLabels);
+    }
     lookup.settings = *asked.settings;
     lookup.interface = asked.interface;
     lookup.name = [0; 255];

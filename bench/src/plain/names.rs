@@ -5,6 +5,8 @@ const LONGEST_LABEL: usize = 63;
 const MOST_POINTERS: usize = 16;
 /// A pointer's least target: the octet after the header.
 const LEAST_TARGET: usize = 12;
+/// How the name of an address ends, from the length octet of a label on.
+const REVERSE_ENDS: [&[u8]; 2] = [b"\x07in-addr\x04arpa\x00", b"\x03ip6\x04arpa\x00"];
 
 /// The octets of the name without pointers that `octets` begins with.
 #[inline]
@@ -31,6 +33,25 @@ pub fn is_whole(octets: &[u8]) -> bool {
 #[inline]
 pub fn is_same(one: &[u8], other: &[u8]) -> bool {
     one.eq_ignore_ascii_case(other)
+}
+
+/// Whether a whole name is one label and its final zero.
+#[inline]
+pub fn is_single(name: &[u8]) -> bool {
+    name.first().is_some_and(|size| name.len() == usize::from(*size) + 2)
+}
+
+/// Whether a whole name is one or more labels and then `in-addr.arpa` or `ip6.arpa`.
+#[inline]
+pub fn is_reverse(name: &[u8]) -> bool {
+    let mut rest = name;
+    while let Some((size, labels)) = rest.split_first() {
+        rest = labels.get(usize::from(*size)..).unwrap_or_default();
+        if REVERSE_ENDS.iter().any(|end| is_same(rest, end)) {
+            return true;
+        }
+    }
+    false
 }
 
 /// A record's name: the offset after it, the octets of the expanded name, and the pointers followed.

@@ -22,6 +22,7 @@ pub enum Refusal {
     Records,
     Busy,
     Settings,
+    SeveralLabels,
 }
 
 impl Refusal {
@@ -47,6 +48,7 @@ impl Refusal {
             Refusal::Records => 18,
             Refusal::Busy => 19,
             Refusal::Settings => 20,
+            Refusal::SeveralLabels => 22,
         }
     }
 }

@@ -178,6 +178,8 @@ pub struct Asked<'a> {
     pub settings: &'a [Setting; INTERFACES],
     pub interface: usize,
     pub name: &'a [u8],
+    /// Whether a name of several labels may be asked for.
+    pub permitted: bool,
     pub qtype: u16,
     pub time: u64,
     pub id: u16,

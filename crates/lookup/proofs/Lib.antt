@@ -1,5 +1,6 @@
 pub mod Laws
 pub mod SeveralLabels
+pub mod SeveralExamples
 pub mod Conditions
 pub mod Turns
 pub mod Refusals

@@ -2,7 +2,7 @@
 
 use super::draft::{self, Draft, Near, CONFLICT, RESPONSE, TENTATIVE, TRUNCATED};
 use super::memory::{Lookup, Memory, Phase, LAST_TIME};
-use super::{addresses, names, pointers, Maker};
+use super::{addresses, names, pointers, reverse, Maker};
 use crate::calls::{Call, Setting};
 
 /// The room for cached answers, which is not read yet.
@@ -14,8 +14,13 @@ impl Maker {
         Call::Settings(addresses::odd_settings(&mut self.random, &self.memory.settings))
     }
 
+    /// One of the file's names or one about in-addr.arpa and ip6.arpa, now and then spoilt.
     fn lookup_name(&mut self) -> Vec<u8> {
-        let name = self.pool[self.random.below(self.pool.len())].clone();
+        let name = if self.random.chance(1, 4) {
+            reverse::name(&mut self.random)
+        } else {
+            self.pool[self.random.below(self.pool.len())].clone()
+        };
         match self.random.below(20) {
             0 => names::bad(&mut self.random, &name),
             1 => self.random.pick(&[&[0][..], &[0, 0], &[]]).to_vec(),
@@ -47,7 +52,7 @@ impl Maker {
             draft::slip_prefix(&mut self.random, &mut prefix, &near);
         }
         let name = self.lookup_name();
-        let permission = if names::split(&name).len() == 1 { self.random.below(2) as u8 } else { 1 };
+        let permission = self.random.pick(&[0, 0, 0, 1, 1, 2, 255]);
         let qtype = self.random.pick(&[1, 1, 28, 12, 255, 0, 2, 256, 65535]);
         Call::Ask { prefix, slot: slot as u8, permission, qtype, name }
     }

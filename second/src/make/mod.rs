@@ -12,6 +12,7 @@ mod memory;
 mod names;
 pub mod pairs;
 mod pointers;
+mod reverse;
 mod sheet;
 mod tables;
 

@@ -42,7 +42,8 @@ pub fn of_length(random: &mut Random, length: usize) -> Vec<u8> {
     join(&labels)
 }
 
-fn label(random: &mut Random) -> Vec<u8> {
+/// A short label of letters, or of octets that lie beside letters, lengths and pointers.
+pub fn label(random: &mut Random) -> Vec<u8> {
     let length = random.pick(&[1, 1, 2, 3, 4, 8]);
     match random.below(5) {
         0 => (0..length).map(|_| random.pick(b"@`[{AaZz^~]}")).collect(),

@@ -20,7 +20,7 @@ pub enum Entry<'a> {
     Datagram(Prefix, Arrival<'a>),
     Tick(Prefix),
     Settings(Settings),
-    Ask { prefix: Prefix, slot: usize, qtype: u16, name: &'a [u8] },
+    Ask { prefix: Prefix, slot: usize, permitted: bool, qtype: u16, name: &'a [u8] },
     Answer(Prefix, usize, Arrival<'a>),
     AskTick(Prefix, usize),
     Name(u16, &'a [u8]),
@@ -56,8 +56,8 @@ impl<'a> Body<'a> {
             40 => Entry::Settings(self.settings()?),
             41 => {
                 let (prefix, slot) = (self.prefix()?, self.slot()?);
-                let _permission = self.octet()?;
-                Entry::Ask { prefix, slot, qtype: self.word()?, name: self.rest() }
+                let permitted = self.octet()? != 0;
+                Entry::Ask { prefix, slot, permitted, qtype: self.word()?, name: self.rest() }
             }
             42 => {
                 let (prefix, slot) = (self.prefix()?, self.slot()?);

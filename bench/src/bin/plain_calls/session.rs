@@ -51,7 +51,9 @@ impl<'a> Session<'a> {
                 self.settings = *settings;
                 lines::settings(text, number);
             }
-            Entry::Ask { prefix, slot, qtype, name } => self.ask(text, number, prefix, *slot, (*qtype, name)),
+            Entry::Ask { prefix, slot, permitted, qtype, name } => {
+                self.ask(text, number, prefix, *slot, (*permitted, *qtype, name));
+            }
             Entry::Answer(prefix, slot, arrival) => self.answer(text, number, prefix, *slot, arrival),
             Entry::AskTick(prefix, slot) => self.ask_tick(text, number, prefix, *slot),
             Entry::Name(offset, message) => lines::name(text, number, message, usize::from(*offset)),
@@ -127,10 +129,10 @@ impl<'a> Session<'a> {
         self.buffer = out;
     }
 
-    fn ask(&mut self, text: &mut String, number: usize, prefix: &Prefix, slot: usize, asked: (u16, &[u8])) {
-        let (mut out, settings, (qtype, name)) = (self.lend(prefix), self.settings, asked);
+    fn ask(&mut self, text: &mut String, number: usize, prefix: &Prefix, slot: usize, asked: (bool, u16, &[u8])) {
+        let (mut out, settings, (permitted, qtype, name)) = (self.lend(prefix), self.settings, asked);
         let interface = usize::from(prefix.interface);
-        let asked = Asked { settings: &settings, interface, name, qtype, time: prefix.time, id: prefix.id };
+        let asked = Asked { settings: &settings, interface, name, permitted, qtype, time: prefix.time, id: prefix.id };
         let lookup = &mut self.lookups[slot];
         let told = match self.form {
             Form::Value => through(lookup, |_| by_value::start_lookup(&asked, &mut out)),
