@@ -4,6 +4,7 @@ pub mod SeveralExamples
 pub mod Conditions
 pub mod Turns
 pub mod Refusals
+pub mod Permission
 pub mod Started
 pub mod Received
 pub mod Ticked
