@@ -1,16 +1,16 @@
 -- The permission of a start lets names of several labels by, and changes nothing else.
 use Prim.Native.Nat.{ℕ}
 use mathlib.Core.Path.{_≡_, refl}
-use mathlib.Core.Logic.{_↔_, _⊎_, inl, inr}
+use mathlib.Core.Logic.{_⊎_, inl, inr}
 use mathlib.Core.List.{List}
 use mathlib.Core.Bool.{true, false}
 use native.Mathlib.Omega.{arith}
 use lib.ListN.{length, getD}
-use lib.Dec.{ltb, leb}
+use lib.Dec.{ltb}
 use Rattle.octets.specs.Octets.{Octets}
 use Rattle.octets.specs.Addresses.{unused}
 use Rattle.octets.specs.declared.Setting.{Setting}
-use Rattle.octets.proofs.Tests.{split, never, cond-same}
+use Rattle.octets.proofs.Tests.{split, never}
 use Rattle.refusal.specs.Numbers.{number}
 use Rattle.refusal.specs.Checks.{verdict}
 use Rattle.refusal.specs.Cases.{First}
@@ -21,10 +21,8 @@ use Rattle.lookup.specs.Outcomes.{refused, Done}
 use Rattle.lookup.specs.SeveralLabels.{severalLabels}
 use Rattle.lookup.specs.Start.{badName, start}
 use Rattle.lookup.specs.Refusals.{startCases}
+use Rattle.lookup.proofs.SeveralLabels.{barred-never}
 use Rattle.lookup.proofs.Refusals.{start-refused-exactly}
-
-permitted : (octets : List ℕ) (labels : ℕ) → severalLabels true octets labels ≡ false
-permitted octets labels = cond-same (leb 2 labels) false
 
 module _ (settings : List Setting) (i : ℕ) (name : List ℕ) (qtype time id : ℕ) (out : List ℕ) where
   abbrev without : Done
@@ -43,7 +41,7 @@ module _ (settings : List Setting) (i : ℕ) (name : List ℕ) (qtype time id : 
       split (badName name (nameAt name 0)) (λ d. inr (rw (a, b, c, d))) λ d.
       split (severalLabels false name (labelsOf (nameAt name 0)))
       (λ e. inl (rw (a, b, c, d, e)))
-      (λ e. inr (rw (a, b, c, d, e, permitted name (labelsOf (nameAt name 0)))))
+      (λ e. inr (rw (a, b, c, d, e, barred-never name (labelsOf (nameAt name 0)))))
 
   -- With it a start is never refused with 22.
   pub never-barred : Octets name → with-it .result ≡ refused (number 22) → ⊥

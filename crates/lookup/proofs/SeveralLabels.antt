@@ -1,18 +1,18 @@
 -- Names of several labels: the definitions of specs/SeveralLabels.antt in the plain words of specs/Refusals.antt.
 use Prim.Native.Nat.{ℕ, zero, suc, _+_, _-_, _<_, _≤_}
-use mathlib.Core.Path.{_≡_, refl, sym, ap, _∙_, subst}
+use mathlib.Core.Path.{_≡_, refl, sym, ap, _∙_}
 use mathlib.Core.Logic.{_↔_, Iff·trans, _⊎_, inl, inr}
 use mathlib.Core.List.{List, [], _∷_, _++_, map, map-append}
-use mathlib.Core.Bool.{Bool, true, false}
+use mathlib.Core.Bool.{Bool, true, false, not}
 use native.Mathlib.Omega.{arith}
 use native.Mathlib.Nat.{add-zero}
 use lib.ListN.{length, getD, take, drop, length-append, length-map, take-append-drop, drop-of-length-le}
 use lib.Dec.{leb}
 use lib.Seq.{drop-nil, drop-drop, drop-at, length-take-le, getD-drop}
 use Rattle.octets.specs.Octets.{octetAt}
-use Rattle.octets.specs.Tests.{_or_}
-use Rattle.octets.proofs.Tests.{split, never, both, both-is, either-is, upto-number, not-upto, not-true, not-is}
-use Rattle.names.specs.Names.{IsLabel, Labels, AreLabels, encode, IsName}
+use Rattle.octets.specs.Tests.{_and_, _or_}
+use Rattle.octets.proofs.Tests.{split, never, cond-same, both, both-is, either-is, upto-number, not-upto, not-true, not-is}
+use Rattle.names.specs.Names.{IsLabel, Labels, AreLabels, encode}
 use Rattle.names.specs.Folding.{folded, foldedName, sameName}
 use Rattle.names.proofs.Names.{same-labels}
 use Rattle.names.proofs.Folding.{same-name-is, folded-encode, folded-labels}
@@ -60,14 +60,28 @@ drop-labels (suc k) (l ∷ n) a = drop-labels k n (a .1)
 
 -- what decides
 module _ (octets : List ℕ) (labels : ℕ) where
+  -- so many labels, and the last two of them
+  abbrev by : Bool → List ℕ → Bool
+  by enough last = enough and (sameName last inAddrArpa or sameName last ip6Arpa)
+
   pub reverse-few : labels < 3 → isReverse octets labels ≡ false
   unfolding isReverse
-  reverse-few h = rw (not-upto 3 labels .1 h)
+  reverse-few h = ap (λ (b : Bool). by b (lastTwo octets labels)) (not-upto 3 labels .1 h)
 
   pub reverse-by : 3 ≤ labels → (last : List ℕ) → last ≡ lastTwo octets labels
       → isReverse octets labels ≡ (sameName last inAddrArpa or sameName last ip6Arpa)
   unfolding isReverse
-  reverse-by h last e = rw (upto-number 3 labels .1 h, e)
+  reverse-by h last e = ap (λ (b : Bool). by b (lastTwo octets labels)) (upto-number 3 labels .1 h) ∙ ap (by true) (sym e)
+
+  -- and what decides 22
+  pub barred-few : (permission : Bool) → labels < 2 → severalLabels permission octets labels ≡ false
+  barred-few permission h = ap (λ (b : Bool). b and not permission and not (isReverse octets labels)) (not-upto 2 labels .1 h)
+
+  pub barred-never : severalLabels true octets labels ≡ false
+  barred-never = cond-same (leb 2 labels) false
+
+  pub barred-by : 2 ≤ labels → severalLabels false octets labels ≡ not (isReverse octets labels)
+  barred-by h = ap (λ (b : Bool). b and not (isReverse octets labels)) (upto-number 2 labels .1 h)
 
 arpa-label : IsLabel arpa
 arpa-label =

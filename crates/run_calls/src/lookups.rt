@@ -76,7 +76,16 @@ fn call(
             let name = entry::asked_name(body);
             let qtype = entry::asked_type(body);
             let permission = entry::permission(body);
-            querier::start(settings, interface, name, qtype, permission, p.time, p.id, out)
+            querier::start(
+                settings,
+                interface,
+                name,
+                qtype,
+                permission,
+                p.time,
+                p.id,
+                out,
+            )
         }
         Kind::Answer => {
             let arrival = entry::after_slot(body);

@@ -1,5 +1,5 @@
 -- `querier::several::after_labels` meets its contract. The loop's invariant: from p on, so many labels are left to be passed.
-use Prim.Native.Nat.{ℕ, zero, _-_}
+use Prim.Native.Nat.{ℕ, _-_}
 use mathlib.Core.Path.{_≡_, refl, sym, ap, _∙_}
 use native.Mathlib.Omega.{arith}
 use mathlib.Core.List.{List}

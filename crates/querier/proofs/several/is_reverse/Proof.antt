@@ -1,5 +1,5 @@
 -- `querier::several::is_reverse` meets its contract.
-use mathlib.Core.Path.{_≡_, sym, _∙_}
+use mathlib.Core.Path.{sym, _∙_}
 use Rattle.lookup.proofs.SeveralLabels.{reverse-few, reverse-by}
 use borrow.Author.Needs.{needs}
 use Rattle.querier.proofs.several.is_reverse.Statement.{statement}
