@@ -12,6 +12,9 @@ case_ours() {
     row 'ask scale3 ANY' indicator IPv6 "$(by_ask 6 h1 scale3 ANY)" '169.254.77.2 fe80::ff:fe00:2'
     row 'ask scale3 16' indicator both "$(said_by_ask h1 scale3 16)" 'exit 1: found, but no such record'
     row 'ask other' nobody both "$(said_by_ask h1 other)" 'exit 1: nobody answered'
+    row 'ask scale3.plant' nobody both "$(said_by_ask h1 scale3.plant)" 'exit 2: a name of several labels needs --several'
+    row 'ask --several scale3.plant' nobody both "$(said_by_ask h1 --several scale3.plant)" 'exit 1: nobody answered'
+    row 'ask 2.77.254.169.in-addr.arpa' nobody both "$(said_by_ask h1 2.77.254.169.in-addr.arpa PTR)" 'exit 1: nobody answered'
     row 'ask, on the same machine' indicator both "$(said_by_ask h2 scale3)" 'exit 1: only this machine answers'
 }
 

@@ -189,7 +189,7 @@ static void start(asker *me, question *q)
                                                       fresh_id(), me->out, sizeof me->out);
 
     if (step.outcome.refusal == LLMNR_REFUSAL_SEVERAL_LABELS)
-        fail(FAILED, "%s: a name of several labels is asked for with --several", me->text);
+        fail(FAILED, "%s: a name of several labels needs --several", me->text);
     if (step.outcome.what == LLMNR_REFUSED)
         fail(FAILED, "%s: the library refused the lookup with %d", me->text, step.outcome.refusal);
     q->lookup = step.lookup;

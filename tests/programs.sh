@@ -195,6 +195,7 @@ ends 2 'ask: TXT: not a type; A, AAAA, PTR, ANY or a number' ask -i none.0 a TXT
 ends 2 'ask: 65536: not a type; A, AAAA, PTR, ANY or a number' ask -i none.0 a 65536
 ends 2 'ask: 1x: not a type; A, AAAA, PTR, ANY or a number' ask -i none.0 a 1x
 ends 2 'ask: none.0: no such network interface' ask -i none.0 --interval 1000 a 65535
+ends 2 'ask: none.0: no such network interface' ask -i none.0 --several a.b
 
 printf 'programs: %s; %d cases as they should be, %d not\n' "$built" "$passed" "$failed"
 [ "$passed" -gt 0 ] && [ "$failed" -eq 0 ]
