@@ -21,7 +21,7 @@ use Rattle.host.specs.declared.Timer.{Timer}
 use Rattle.lookup.specs.State.{settingOf, withPhase}
 use Rattle.lookup.specs.Outcomes.{Result, query, Done}
 use Rattle.lookup.specs.Receive.{Arrival}
-use Rattle.lookup.specs.Refusals.{IsToLookUp, IsReverse, IsAwaited}
+use Rattle.lookup.specs.Refusals.{IsToLookUp, IsReverse, HasSeveral, IsAwaited}
 use Rattle.lookup.specs.declared.Phase.{Phase}
 use Rattle.lookup.specs.declared.Phase.the-variants.{Asking, Collecting, Ended}
 use Rattle.lookup.specs.declared.Lookup.{Lookup}
@@ -60,6 +60,15 @@ pub record StartsWhen (settings : List Setting) (i : ℕ) (name : List ℕ) (per
   pub name-is : IsToLookUp name
   -- it has one label, or the start has the permission, or it is a reverse name
   pub may-ask : (length (name-is .name) < 2) ⊎ (permission ≡ true) ⊎ IsReverse (name-is .name)
+
+-- It is refused with 22: all else is well, but the name has two or more labels, there is no permission, and for no list of at least one label
+-- is the folded name that list and then in-addr, arpa or ip6, arpa (HasSeveral, IsReverse).
+pub record BarredWhen (settings : List Setting) (i : ℕ) (name : List ℕ) (permission : Bool) (time : ℕ) (out : List ℕ) : Type 0 where
+  pub room : 512 ≤ length out
+  pub used : IsUsed i (getD settings i unused)
+  pub latest : time ≤ 281474976710655
+  pub name-is : IsToLookUp name
+  pub several : HasSeveral permission (name-is .name)
 
 -- A lookup that has just been started, with an interval of n: sent once, due an interval from now. Its name fills the front of an array of
 -- 255 octets, the rest of which is zero.
