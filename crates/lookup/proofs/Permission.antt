@@ -10,7 +10,7 @@ use lib.Dec.{ltb}
 use Rattle.octets.specs.Octets.{Octets}
 use Rattle.octets.specs.Addresses.{unused}
 use Rattle.octets.specs.declared.Setting.{Setting}
-use Rattle.octets.proofs.Tests.{split, never}
+use Rattle.octets.proofs.Tests.{split, never, not-is}
 use Rattle.refusal.specs.Numbers.{number}
 use Rattle.refusal.specs.Checks.{verdict}
 use Rattle.refusal.specs.Cases.{First}
@@ -28,10 +28,10 @@ use Rattle.lookup.proofs.Refusals.{start-refused-exactly}
 
 -- a used interface is one that is not unused
 used-not : (i : ℕ) (s : Setting) → (IsUnused i s → ⊥) → IsUsed i s
-used-not i s f = split (noInterface i (s .family)) (λ e. absurd (f (unused-is i s .0 e))) (λ e. used-is i s .0 e)
+used-not i s f = used-is i s .0 (not-is _ (unused-is i s) .1 f)
 
 not-used : (i : ℕ) (s : Setting) → IsUsed i s → IsUnused i s → ⊥
-not-used i s u f = never (unused-is i s .1 f) (used-is i s .1 u)
+not-used i s u = not-is _ (unused-is i s) .0 (used-is i s .1 u)
 
 module _ (settings : List Setting) (i : ℕ) (name : List ℕ) (qtype : ℕ) (permission : Bool) (time id : ℕ) (out : List ℕ) where
   -- the number 22 stands last in the list

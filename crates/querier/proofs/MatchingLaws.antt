@@ -14,6 +14,14 @@ use Rattle.lookup.specs.Receive.{matchChecks}
 use Rattle.querier.specs.declared.matching.Matching.{Matching}
 use Rattle.querier.specs.Matching.{matched, matchedBy}
 
+-- what it tells of the verdict that it equals
+module _ (m : Matching) {v : Verdict} (e : matchedBy m ≡ v) where
+  pub tells-refused : m .refused ≡ true → v ≡ refused (reportOf (m .refusal))
+  tells-refused b = sym e ∙ rw b
+
+  pub tells-passed : m .refused ≡ false → v ≡ passed
+  tells-passed b = sym e ∙ rw b
+
 module _ (awaited : Bool) (settings : List Setting) (source : Address) (x : Header) (q : Question) (s : List ℕ) where
   pub matched-so : {v : Verdict} → Gives (matchChecks awaited settings source x q s) v → v ≡ matched awaited settings source x q s
   unfolding matched
@@ -22,8 +30,8 @@ module _ (awaited : Bool) (settings : List Setting) (source : Address) (x : Head
   module _ (m : Matching) (e : matchedBy m ≡ matched awaited settings source x q s) where
     pub match-refused : m .refused ≡ true → verdict (matchChecks awaited settings source x q s) ≡ refused (reportOf (m .refusal))
     unfolding matched
-    match-refused b = sym e ∙ rw b
+    match-refused = tells-refused m e
 
     pub match-passed : m .refused ≡ false → verdict (matchChecks awaited settings source x q s) ≡ passed
     unfolding matched
-    match-passed b = sym e ∙ rw b
+    match-passed = tells-passed m e

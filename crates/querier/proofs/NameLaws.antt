@@ -1,6 +1,6 @@
 -- What the code says of the name that is to be looked up: the checks 10 and 22.
 use Prim.Native.Nat.{ℕ}
-use mathlib.Core.Path.{_≡_, sym, ap, _∙_}
+use mathlib.Core.Path.{_≡_, ap, _∙_}
 use mathlib.Core.List.{List}
 use mathlib.Core.Bool.{Bool, true, false}
 use lib.ListN.{length}
@@ -16,6 +16,7 @@ use Rattle.lookup.specs.SeveralLabels.{severalLabels}
 use Rattle.lookup.specs.Start.{badName, nameChecks}
 use Rattle.querier.specs.declared.matching.Matching.{Matching}
 use Rattle.querier.specs.Matching.{matchedBy}
+use Rattle.querier.proofs.MatchingLaws.{tells-refused, tells-passed}
 
 module _ (permission : Bool) (name : List ℕ) where
   abbrev judged : Verdict
@@ -41,7 +42,7 @@ module _ (permission : Bool) (name : List ℕ) where
   -- what follows for the start
   module _ (m : Matching) (e : matchedBy m ≡ judged) where
     pub name-refused : m .refused ≡ true → Gives (nameChecks permission name (nameAt name 0)) (refused (reportOf (m .refusal)))
-    name-refused b = by-verdict (sym e ∙ rw b)
+    name-refused b = by-verdict (tells-refused m e b)
 
     pub name-taken : m .refused ≡ false → Gives (nameChecks permission name (nameAt name 0)) passed
-    name-taken b = by-verdict (sym e ∙ rw b)
+    name-taken b = by-verdict (tells-passed m e b)
