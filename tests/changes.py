@@ -19,7 +19,7 @@ import subprocess
 import sys
 import tempfile
 
-CRATES = ['octets', 'refusal', 'names', 'name_table', 'message', 'host', 'witness', 'examples', 'lookup', 'exchange']
+CRATES = ['octets', 'refusal', 'names', 'name_table', 'message', 'host', 'witness', 'order', 'examples', 'lookup', 'exchange']
 ERROR = re.compile(r'crates/(\w+)/(\S+?):\d+:\d+: error: (?:`([^`]*)`)?(.*)')
 
 

@@ -1,1 +1,2 @@
-// Document 01's examples marked P, as theorems: specs/Cases.antt has the list, proofs/Hold.antt the proof.
+// Examples as theorems. specs/Cases.antt has those of document 01, with their proof in proofs/Hold.antt; specs/Exchange.antt an exchange;
+// specs/Order.antt calls of which the order matters; specs/Numbers.antt the papers' numbers.

@@ -64,7 +64,7 @@ module _ (h : Host) (a : Arrival) where
   pub after-11 : Clear (receiveChecks h a) → Clear (last h a)
   after-11 c = c .1 .1 .1 .1 .1 .1 .1 .1 .1 .1 .1
 
-  arrives-is : Clear (receiveChecks h a) → ArrivesWell h a (namesIn (checkTable (a .table))) (question a)
+  pub arrives-is : Clear (receiveChecks h a) → ArrivesWell h a (namesIn (checkTable (a .table))) (question a)
   arrives-is c =
       let lengths = neither (ltb (length (a .datagram)) shortest) (ltb longest (length (a .datagram))) .0 (c .1 .1 .1 .1 .0) in
       record {

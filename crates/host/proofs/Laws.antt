@@ -7,7 +7,7 @@ use mathlib.Core.List.{List, [], _∷_}
 use mathlib.Core.Bool.{Bool, true, false}
 use native.Mathlib.Omega.{arith}
 use lib.ListN.{length, getD, set, length-map}
-use lib.Seq.{getD-set-same, getD-set-other, set-out, map-set-same}
+use lib.Seq.{getD-set-same, getD-set-other, set-out, map-set-same, ext-getD}
 use lib.Dec.{leb, ltb}
 use borrow.Author.Tests.{leb-true, leb-false}
 use Rattle.octets.specs.Addresses.{unused}
@@ -211,6 +211,18 @@ state-stays h i k time =
     ap (λ (x : List Name). record { interfaces = set (h .interfaces) i (record { setting = settingOf h i; names = x }); clock = time }) n
     ∙ ap (λ (x : List Interface). record { interfaces = x; clock = time }) (set-same (h .interfaces) i absent)
 
+-- as many interfaces as settings; and a host is its interfaces, one by one, and its clock
+pub as-many : (l m : List Interface) → settingsOf l ≡ settingsOf m → length l ≡ length m
+as-many l m e = sym (length-map l (λ (x : Interface). x .setting)) ∙ ap length e ∙ length-map m (λ (x : Interface). x .setting)
+
+pub same-host : {l m : List Interface} {c d : ℕ} → l ≡ m → c ≡ d
+    → _≡_ {A = Host} (record { interfaces = l; clock = c }) (record { interfaces = m; clock = d })
+same-host e f = rw (e, f)
+
+pub one-host : (h g : Host) → settingsOf (h .interfaces) ≡ settingsOf (g .interfaces) → ((j : ℕ) → interfaceOf h j ≡ interfaceOf g j)
+    → h .clock ≡ g .clock → h ≡ g
+one-host h g s e c = same-host (ext-getD absent (h .interfaces) (g .interfaces) (as-many (h .interfaces) (g .interfaces) s) (λ j l. e j)) c
+
 -- ---- What a call gives depends on the clock, all settings, its own interface's names and its inputs, and on nothing else.
 
 -- the same is stored at the same place
@@ -234,7 +246,7 @@ module _ (h g : Host) (i : ℕ) (same : SameHere h g i) where
             ∙ sym (map-set-same (λ (x : Interface). x .setting) (g .interfaces) i _ absent refl);
         here =
             set-here (h .interfaces) (g .interfaces) i _
-            (sym (length-map (h .interfaces) (λ (x : Interface). x .setting)) ∙ ap length (same .settings) ∙ length-map (g .interfaces) (λ (x : Interface). x .setting)) (same .here)
+            (as-many (h .interfaces) (g .interfaces) (same .settings)) (same .here)
             ∙ ap (λ (x : Interface). getD (set (g .interfaces) i (record { setting = x .setting; names = set (x .names) k (record { state = s }) })) i absent) (same .here);
       }
 

@@ -1,10 +1,12 @@
 pub mod Conditions
 pub mod Called
+pub mod Accepted
 pub mod Arrives
 pub mod Received
 pub mod ExactlyWhen
 pub mod Started
 pub mod Ticked
 pub mod Laws
+pub mod Clock
 pub mod ThreeQueries
 pub mod Sent

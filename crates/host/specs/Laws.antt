@@ -51,6 +51,18 @@ pub record SameDone (d e : Done) (i : ℕ) : Type 0 where
   pub octets : d .octets ≡ e .octets
   pub after : SameHere (d .host) (e .host) i
 
+-- Two calls tell the same: the outcome, the destination, and every octet of the lent buffer.
+pub record SameTold (d e : Done) : Type 0 where
+  pub result : d .result ≡ e .result
+  pub to : d .to ≡ e .to
+  pub octets : d .octets ≡ e .octets
+
+-- Two calls give the same but for the clock.
+pub record SameButClock (d e : Done) : Type 0 where
+  pub told : SameTold d e
+  -- all settings and every name, on every interface
+  pub interfaces : d .host .interfaces ≡ e .host .interfaces
+
 -- The refusal numbers of some checks, in the order in which they are made.
 abbrev pub numbersOf : Checks → List ℕ
 numbersOf (fail test t rest) = numberIn t ∷ numbersOf rest

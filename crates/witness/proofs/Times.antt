@@ -13,7 +13,7 @@ use Rattle.octets.specs.PlainAddresses.{nothing}
 use Rattle.octets.specs.declared.Setting.{Setting}
 use Rattle.octets.proofs.Tests.{split}
 use Rattle.refusal.specs.Numbers.{Report}
-use Rattle.refusal.specs.Checks.{pass, Clear}
+use Rattle.refusal.specs.Checks.{pass}
 use Rattle.name_table.specs.Check.{Held, good, noName, checkTable, namesIn}
 use Rattle.message.specs.declared.Question.{Question}
 use Rattle.message.specs.Header.{headerOf}
@@ -21,9 +21,8 @@ use Rattle.host.specs.State.{stateOf, IsInterval, dueAt, zeros}
 use Rattle.host.specs.Outcomes.{Done, refused, ready, quiet, unique as uniqueName}
 use Rattle.host.specs.SetUp.{setUp}
 use Rattle.host.specs.Start.{start}
-use Rattle.host.specs.Early.{early}
 use Rattle.host.specs.Laws.{Accepted}
-use Rattle.host.specs.Tick.{tickIf, tick}
+use Rattle.host.specs.Tick.{tick}
 use Rattle.host.specs.Receive.{Arrival, receive}
 use Rattle.host.specs.ExactlyWhen.{CalledWell, QueryArrives, AsksFor, stateHere}
 use Rattle.host.specs.Served.{ReadyWhen, DueBy, ServesWhen, HasAsked}
@@ -31,6 +30,7 @@ use Rattle.host.specs.declared.NameState.{NameState}
 use Rattle.host.specs.declared.NameState.the-variants.{Off, Verifying, Unique, Defending, Stopped, Shared}
 use Rattle.host.specs.declared.Host.{Host}
 use Rattle.host.proofs.Called.{called-is}
+use Rattle.host.proofs.Accepted.{tick-checked}
 use Rattle.host.proofs.Conditions.{interval-is}
 use Rattle.host.proofs.Started.{sets-up}
 use Rattle.host.proofs.Ticked.{tick-rests, tick-settles, tick-asks}
@@ -38,15 +38,10 @@ use Rattle.host.proofs.Laws.{set-up-refused}
 use Rattle.witness.specs.States.{Interval, Place, Leaves, Moves, Becomes, Asks, checkOf, IsDue, First, Alone, VerifyingTicks, Ticks, Ours, UniqueStarts, Notification, WaitsUntil, verifying, defending, Serves, asks-again, settles, DueExactly, hostOf}
 use Rattle.witness.proofs.Comes.{leaves, becomes, asks-check}
 use Rattle.witness.proofs.States.{unique-starts, notification}
-use Rattle.witness.proofs.Whole.{passed-all}
 
 -- ---- ticks
 
--- what an accepted tick has passed, and what it has been given
-tick-checked : (h : Host) (table : List ℕ) (i time id : ℕ) (out : List ℕ) → Accepted (tick h table i time id out) → Clear (early h table i time out pass)
-unfolding tick
-tick-checked h table i time id out a = passed-all (λ v. tickIf v h table i time out) (λ t. refl) (early h table i time out pass) a
-
+-- what an accepted tick has been given
 pub tick-called : (h : Host) (table : List ℕ) (i time id : ℕ) (out : List ℕ) → Accepted (tick h table i time id out) → (names : List Held)
     → checkTable table ≡ good names → CalledWell h table i time out names
 tick-called h table i time id out a names g =

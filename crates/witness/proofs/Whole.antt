@@ -1,38 +1,33 @@
 -- What a call can come to, in the words of specs/States.antt, leaves nothing open: two results of which the same is said are the same. A
--- host with four interfaces of eight names keeps them. And what an accepted call has passed.
+-- host with four interfaces of eight names keeps them.
 use Prim.Native.Nat.{ℕ, zero, suc, _<_}
 use mathlib.Core.Path.{_≡_, refl, sym, ap, _∙_, subst}
-use mathlib.Core.Logic.{_↔_, _⊎_, inl, inr, ⊎-elim}
+use mathlib.Core.Logic.{_↔_, ⊎-elim}
 use mathlib.Core.List.{List}
-use mathlib.Core.Bool.{false}
 use native.Mathlib.Omega.{arith}
-use lib.ListN.{length, getD, length-map}
+use lib.ListN.{length, getD}
 use lib.Seq.{ext-getD}
 use lib.Dec.{eqb}
 use borrow.Author.Tests.{eqb-true, eqb-false}
 use Rattle.octets.specs.declared.Endpoint.{Endpoint}
 use Rattle.octets.specs.declared.Setting.{Setting}
 use Rattle.octets.proofs.PlainAddresses.{group-one}
-use Rattle.octets.proofs.Tests.{split, never}
+use Rattle.octets.proofs.Tests.{split}
 use Rattle.refusal.specs.Numbers.{Report, number}
-use Rattle.refusal.specs.Checks.{Checks, Verdict, refused as refusedBy, passed, verdict, Clear}
 use Rattle.refusal.specs.Cases.{Case, First}
-use Rattle.refusal.proofs.Checks.{clear}
 use Rattle.host.specs.State.{offName, absent, interfaceOf, stateOf}
-use Rattle.host.specs.Outcomes.{Result, refused, ready, quiet, kept, unique, shared, stopped, query, reply, isRefused, Done}
+use Rattle.host.specs.Outcomes.{Result, refused, Done}
 use Rattle.host.specs.Laws.{Unchanged, Accepted}
 use Rattle.host.specs.declared.NameState.{NameState}
 use Rattle.host.specs.declared.Name.{Name}
 use Rattle.host.specs.declared.Interface.{Interface}
 use Rattle.host.specs.declared.Host.{Host}
+use Rattle.host.proofs.Accepted.{refused-or}
+use Rattle.host.proofs.Laws.{as-many, same-host, one-host}
 use Rattle.witness.specs.States.{Place, Refuses, Leaves, Moves, Becomes, Asks, hostOf}
 use Rattle.witness.specs.Whole.{Full, RefusedExactly}
 
 -- ---- hosts
-
-same-host : {i j : List Interface} {c d : ℕ} → i ≡ j → c ≡ d
-    → _≡_ {A = Host} (record { interfaces = i; clock = c }) (record { interfaces = j; clock = d })
-same-host e f = rw (e, f)
 
 same-interface : {s t : Setting} {l m : List Name} → s ≡ t → l ≡ m
     → _≡_ {A = Interface} (record { setting = s; names = l }) (record { setting = t; names = m })
@@ -59,15 +54,9 @@ module _ (h : Host) (i k : ℕ) (s : NameState) (time : ℕ) (d e : Done) (v : M
       (λ t. subst (λ (x : ℕ). interfaceOf (d .host) x ≡ interfaceOf (e .host) x) (sym (eqb-true j i t)) one-here)
       (λ t. v .others .interfaces j (eqb-false j i t) ∙ sym (w .others .interfaces j (eqb-false j i t)))
 
-  as-many : length (d .host .interfaces) ≡ length (e .host .interfaces)
-  as-many =
-      sym (length-map (d .host .interfaces) (λ (x : Interface). x .setting))
-      ∙ ap length (v .others .settings ∙ sym (w .others .settings))
-      ∙ length-map (e .host .interfaces) (λ (x : Interface). x .setting)
-
   -- One name has moved: the host is determined.
   pub moves-one : d .host ≡ e .host
-  moves-one = same-host (ext-getD absent (d .host .interfaces) (e .host .interfaces) as-many (λ j l. one-interface j)) (v .clock ∙ sym (w .clock))
+  moves-one = one-host (d .host) (e .host) (v .others .settings ∙ sym (w .others .settings)) one-interface (v .clock ∙ sym (w .clock))
 
 -- ---- a host that is full stays so
 
@@ -84,11 +73,7 @@ host-full s t u v time = record { four = refl; eight = go }
 pub moves-full : (h : Host) (i k : ℕ) (s : NameState) (time : ℕ) (d : Done) → Full h → Moves h i k s time d → Full (d .host)
 moves-full h i k s time d f m =
     record {
-      four =
-          sym (length-map (d .host .interfaces) (λ (x : Interface). x .setting))
-          ∙ ap length (m .others .settings)
-          ∙ length-map (h .interfaces) (λ (x : Interface). x .setting)
-          ∙ f .four;
+      four = as-many (d .host .interfaces) (h .interfaces) (m .others .settings) ∙ f .four;
       eight =
           λ j l.
           split (eqb j i)
@@ -131,21 +116,6 @@ leaves-one h time out r d e v w =
 pub not-refused : {A : Type 0} (h : Host) (out : List ℕ) (n : ℕ) (d : Done) → Accepted d → Refuses h out n d → A
 not-refused h out n d a r = absurd (a (number n) (r .result))
 
--- it is the one or the other
-told : (r : Result) → ((t : Report) × (r ≡ refused t)) ⊎ (isRefused r ≡ false)
-told (refused t) = inl (t, refl)
-told ready = inr refl
-told quiet = inr refl
-told (kept k) = inr refl
-told (unique k) = inr refl
-told (shared k) = inr refl
-told (stopped k) = inr refl
-told (query k len) = inr refl
-told (reply len) = inr refl
-
-pub refused-or : (d : Done) → ((t : Report) × (d .result ≡ refused t)) ⊎ Accepted d
-refused-or d = ⊎-elim (λ x. inl x) (λ e. inr (λ t f. never (ap isRefused f) e)) (told (d .result))
-
 -- Two results that are refused exactly alike, and are the same if accepted, are the same.
 pub same-if-accepted : (h : Host) (out : List ℕ) (cases : List Case) (d e : Done) → RefusedExactly h out cases d → RefusedExactly h out cases e
     → (Accepted d → Accepted e → d ≡ e) → d ≡ e
@@ -166,14 +136,6 @@ pub refused-exactly : (h : Host) (out : List ℕ) (cases : List Case) (d : Done)
     → ((t : Report) → d .result ≡ refused t → Unchanged h out d) → RefusedExactly h out cases d
 refused-exactly h out cases d f g =
     record { exactly = f; nothing-else = λ t e. let u = g t e in same-done (u .host) e (u .to) (u .octets) }
-
--- what is accepted has passed every check
-pub passed-all : (done : Verdict → Done) → ((t : Report) → done (refusedBy t) .result ≡ refused t) → (c : Checks) → Accepted (done (verdict c)) → Clear c
-passed-all done r c a = go (verdict c) refl a
-  where
-    go : (v : Verdict) → verdict c ≡ v → Accepted (done v) → Clear c
-    go (refusedBy t) e x = absurd (x t (r t))
-    go passed e x = clear c e
 
 -- ---- what a host and a table have
 

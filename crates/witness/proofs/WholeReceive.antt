@@ -23,11 +23,12 @@ use Rattle.message.specs.Query.{queryWith}
 use Rattle.host.specs.State.{stateOf, settingOf, off, unique, is, dueAt}
 use Rattle.host.specs.Outcomes.{Done}
 use Rattle.host.specs.Laws.{Accepted}
-use Rattle.host.specs.Receive.{Arrival, header, question, found, nameNumber, state, fromUs, awaits, queryChecks, responseChecks, receiveChecks, receiveIf, receive}
+use Rattle.host.specs.Receive.{Arrival, header, question, found, nameNumber, state, fromUs, awaits, queryChecks, responseChecks, receiveChecks, receive}
 use Rattle.host.specs.ExactlyWhen.{ArrivesWell, RepliesWhen}
 use Rattle.host.specs.declared.NameState.{NameState}
 use Rattle.host.specs.declared.NameState.the-variants.{Off, Verifying, Unique, Defending, Stopped, Shared}
 use Rattle.host.specs.declared.Host.{Host}
+use Rattle.host.proofs.Accepted.{receive-checked}
 use Rattle.host.proofs.Arrives.{after-11, query-is, response-is}
 use Rattle.host.proofs.Conditions.{found-at, not-off, not-stopped, has-interval}
 use Rattle.host.proofs.Laws.{receive-refused}
@@ -41,7 +42,7 @@ use Rattle.witness.proofs.OneReply.{one-reply}
 use Rattle.witness.proofs.OnlyItsOwn.{owns-one}
 use Rattle.witness.proofs.Ours.{ours-is, is-below, from-below}
 use Rattle.witness.proofs.States.{notification, response}
-use Rattle.witness.proofs.Whole.{moves-full, same-full, becomes-one, asks-one, leaves-one, not-refused, same-if-accepted, full-if-accepted, refused-exactly, passed-all, place-in}
+use Rattle.witness.proofs.Whole.{moves-full, same-full, becomes-one, asks-one, leaves-one, not-refused, same-if-accepted, full-if-accepted, refused-exactly, place-in}
 
 -- ---- the name that is found
 
@@ -70,10 +71,6 @@ module _ (h : Host) (a : Arrival) where
       subst (P q) (ap numberOr m) (subst (λ (p : Question). P p (nameNumber a)) e x)
 
   -- ---- what has been passed
-
-  checked : Accepted done → Clear (receiveChecks h a)
-  unfolding receive
-  checked x = passed-all (λ v. receiveIf v h a) (λ t. refl) (receiveChecks h a) x
 
   module _ (c : Clear (receiveChecks h a)) (qr : headerOf (a .datagram) .response ≡ false) where
     query-clear : Clear (queryChecks h a)
@@ -138,7 +135,7 @@ module _ (h : Host) (a : Arrival) where
         → (hs : List Held) (q : Question) (k : ℕ) → ForName a hs q k → (t : GoodTable (a .table)) → ReplyFrom h a q k (t .entries) done
     unfolding replies-when
     answers x qr e hs q k f t =
-        found-one hs q k f (λ p j. ReplyFrom h a p j (t .entries) done) (reply-whole h a (replies-when (checked x) qr e) od ot t)
+        found-one hs q k f (λ p j. ReplyFrom h a p j (t .entries) done) (reply-whole h a (replies-when (receive-checked h a x) qr e) od ot t)
 
     defends : Accepted done → headerOf (a .datagram) .response ≡ false → headerOf (a .datagram) .conflict ≡ true
         → (hs : List Held) (q : Question) (k : ℕ) → ForName a hs q k → (n : ℕ) → Interval h (a .interface) n
@@ -146,7 +143,7 @@ module _ (h : Host) (a : Arrival) where
         (queryWith (a .id) (take (q .end - 12) (drop 12 (a .datagram)))) (a .out) done
     defends x qr e hs q k f n v =
         found-one hs q k f (λ p j. Asks h (a .interface) j (Defending (a .id) (p .qtype) (p .class) (dueAt (a .time + n))) (a .time) (queryWith (a .id) (take (p .end - 12) (drop 12 (a .datagram)))) (a .out) done)
-        (let c = checked x in
+        (let c = receive-checked h a x in
         let w = query-is h a c qr in
         let m = query-name c qr in
         go (state h a) (notification h a names (question a) (nameNumber a) w (m .name) n od (place (w .arrives .called .interface) m) v e (not-ours c qr e)))
@@ -169,7 +166,7 @@ module _ (h : Host) (a : Arrival) where
         go (state h a) (awaited c qr) (response h a names (question a) (nameNumber a) w (m .name) (place (w .arrives .called .interface) m)))
       where
         c : Clear (receiveChecks h a)
-        c = checked x
+        c = receive-checked h a x
 
         go : (s : NameState) → awaits s (header a .id) (question a .qtype) (question a .class) ≡ true
             → Response h a (question a) (nameNumber a) s done → Heard h a (nameNumber a) s done
@@ -248,7 +245,7 @@ plain-is-receive h a ot od full d p =
   where
     same : Accepted d → Accepted (receive h a) → d ≡ receive h a
     same x y =
-        let c = checked h a y in
+        let c = receive-checked h a y in
         split (headerOf (a .datagram) .response)
         (λ qr.
         let f = response-name h a c qr in
@@ -272,7 +269,7 @@ receive-full h a ot od full = full-if-accepted h (a .out) (receiveCases h a) (re
   where
     stays : Accepted (receive h a) → Full (receive h a .host)
     stays y =
-        let c = checked h a y in
+        let c = receive-checked h a y in
         split (headerOf (a .datagram) .response)
         (λ qr.
         heard-full h a (names h a) (question a) (nameNumber a) (response-is h a c qr .arrives) (state h a) (receive h a)

@@ -9,7 +9,7 @@ use borrow.Author.Tests.{leb-false}
 use Rattle.octets.specs.Octets.{Octets}
 use Rattle.octets.specs.PlainAddresses.{nothing}
 use Rattle.octets.specs.declared.Setting.{Setting}
-use Rattle.refusal.specs.Checks.{Verdict, refused as refusedBy, passed, verdict, Clear}
+use Rattle.refusal.specs.Checks.{Verdict, refused as refusedBy, passed, verdict}
 use Rattle.name_table.specs.Check.{Held, good, noName, checkTable, namesIn}
 use Rattle.name_table.specs.Entries.{Entry, unique as uniqueKind, shared as sharedKind, resource, dataOctets, located}
 use Rattle.name_table.proofs.Held.{few-held}
@@ -19,12 +19,13 @@ use Rattle.host.specs.State.{settingOf, stateOf, dueAt}
 use Rattle.host.specs.Outcomes.{ready, shared as sharedName, Done}
 use Rattle.host.specs.Laws.{Accepted}
 use Rattle.host.specs.SetUp.{setUpChecks, setUpBy, setUp}
-use Rattle.host.specs.Start.{nameChecks, startChecks, startIf, start}
+use Rattle.host.specs.Start.{nameChecks, start}
 use Rattle.host.specs.ExactlyWhen.{CalledWell}
 use Rattle.host.specs.declared.NameState.{NameState}
 use Rattle.host.specs.declared.NameState.the-variants.{Off, Verifying, Unique, Defending, Stopped, Shared}
 use Rattle.host.specs.declared.Host.{Host}
 use Rattle.host.proofs.Called.{called-is}
+use Rattle.host.proofs.Accepted.{start-checked}
 use Rattle.host.proofs.Conditions.{has-interval}
 use Rattle.host.proofs.Laws.{set-up-refused, start-refused}
 use Rattle.witness.specs.Refusals.{startCases}
@@ -32,7 +33,7 @@ use Rattle.witness.specs.States.{Interval, Place, Becomes, Asks, checkOf
 use Rattle.witness.specs.Whole.{Full, PlainSetUp, PlainStart}
 use Rattle.witness.proofs.Refusals.{set-up-refused-exactly, start-refused-exactly}
 use Rattle.witness.proofs.States.{unique-starts, shared-starts}
-use Rattle.witness.proofs.Whole.{host-full, moves-full, becomes-one, asks-one, not-refused, same-if-accepted, full-if-accepted, refused-exactly, passed-all, place-in}
+use Rattle.witness.proofs.Whole.{host-full, moves-full, becomes-one, asks-one, not-refused, same-if-accepted, full-if-accepted, refused-exactly, place-in}
 
 -- ---- set-up
 
@@ -93,20 +94,16 @@ module _ (h : Host) (table : List ℕ) (i k time id : ℕ) (out : List ℕ) wher
   abbrev done : Done
   done = start h table i k time id out
 
-  checked : Accepted done → Clear (startChecks h table i k time out)
-  unfolding start
-  checked a = passed-all (λ v. startIf v h table i k time id out) (λ t. refl) (startChecks h table i k time out) a
-
   abbrev names : List Held
   names = namesIn (checkTable table)
 
   good-names : Accepted done → checkTable table ≡ good names
-  good-names a = called-is h table i time out (nameChecks h table i k) (checked a) .good-table
+  good-names a = called-is h table i time out (nameChecks h table i k) (start-checked h table i k time id out a) .good-table
 
   -- what an accepted start has been given
   begun : Accepted done → (names : List Held) → checkTable table ≡ good names → CalledWell h table i time out names × (k < length names)
   begun a names g =
-      let c = checked a in
+      let c = start-checked h table i k time id out a in
       subst (λ (hs : List Held). CalledWell h table i time out hs × (k < length hs)) (ap namesIn g)
       (called-is h table i time out (nameChecks h table i k) c, leb-false _ _ (c .1 .1 .1 .1 .0))
 
