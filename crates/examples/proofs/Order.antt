@@ -26,4 +26,6 @@ orders =
       forwards = (refl, (refl, refl));
       backwards = (refl, (refl, refl));
       two-times = λ o. never (ap isRefused (o .one .result)) refl;
+      second-last = (refl, (refl, refl));
+      second-between = (refl, (refl, refl));
     }

@@ -3,7 +3,7 @@
 -- theorem can be left out.
 use Prim.Native.Nat.{ℕ}
 use mathlib.Core.Path.{_≡_}
-use mathlib.Core.List.{List, [], _∷_}
+use mathlib.Core.List.{List, [], _∷_, map}
 use lib.ListN.{replicate}
 use Rattle.refusal.specs.Numbers.{number}
 use Rattle.host.specs.State.{offName, dueAt}
@@ -15,6 +15,7 @@ use Rattle.host.specs.declared.Interface.{Interface}
 use Rattle.host.specs.declared.Host.{Host}
 use Rattle.order.specs.Calls.{Call, starts, ticks, made}
 use Rattle.order.specs.Order.{EitherOrder}
+use Rattle.order.specs.Interleaved.{Told, after, allTold, toldOn}
 use Rattle.examples.specs.Cases.{S, buffer}
 
 -- an interface with 192.0.2.n and 100 ms, with name 0 in some state; and a host with two of them and a clock
@@ -47,6 +48,13 @@ Come c e r s g = (made c idle .result ≡ r) × ((made e (made c idle .host) .re
 abbrev pub asked : ℕ → NameState
 asked id = Verifying 1 id (dueAt 108)
 
+-- what those of a list of calls that are on interface i come to; the state that the list leaves, and what those on 0 and on 1 come to
+abbrev pub resultsOn : ℕ → List Call → List Result
+resultsOn i cs = map (λ (t : Told). t .result) (toldOn i (allTold idle cs))
+
+abbrev pub Run : List Call → Host → List Result → List Result → Type 0
+Run cs g rs ss = (after idle cs ≡ g) × ((resultsOn 0 cs ≡ rs) × (resultsOn 1 cs ≡ ss))
+
 pub record Orders : Type 0 where
   -- two interfaces, one time: either way both ask, each with its own ID, and the state is the same
   pub both-ask : Come (startOn 0 9) (startOn 1 10) (query 0 24) (query 0 24) (twoPorts (asked 9) (asked 10) 8)
@@ -59,3 +67,10 @@ pub record Orders : Type 0 where
   pub forwards : Come (tickAt 0 8) (tickAt 1 9) quiet quiet (twoPorts Off Off 9)
   pub backwards : Come (tickAt 1 9) (tickAt 0 8) quiet (refused (number 4)) (twoPorts Off Off 9)
   pub two-times : EitherOrder idle (tickAt 0 8) (tickAt 1 9) → ⊥
+  -- two starts on interface 0 and one on interface 1, interleaved in two ways
+  pub second-last :
+      Run (startOn 0 9 ∷ startOn 0 10 ∷ startOn 1 11 ∷ []) (twoPorts (asked 9) (asked 11) 8)
+      (query 0 24 ∷ refused (number 19) ∷ []) (query 0 24 ∷ [])
+  pub second-between :
+      Run (startOn 0 9 ∷ startOn 1 11 ∷ startOn 0 10 ∷ []) (twoPorts (asked 9) (asked 11) 8)
+      (query 0 24 ∷ refused (number 19) ∷ []) (query 0 24 ∷ [])
