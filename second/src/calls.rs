@@ -1,7 +1,7 @@
 //! The entries of a call file: their values, how they are read from a file's octets and how they are written as such.
 
 /// A file above this many octets is not read at all.
-const LONGEST_FILE: usize = 262_144;
+pub const LONGEST_FILE: usize = 262_144;
 
 #[derive(Clone, Copy, PartialEq, Eq, Debug)]
 pub struct Address {
@@ -269,6 +269,22 @@ impl Call {
             | Call::Answer { prefix, .. }
             | Call::AskTick { prefix, .. } => Some(prefix),
         }
+    }
+
+    /// The same call with another prefix, if it has one.
+    pub fn with_prefix(&self, new: Prefix) -> Call {
+        let mut call = self.clone();
+        match &mut call {
+            Call::Table(_) | Call::Settings(_) | Call::Name { .. } => {}
+            Call::SetUp { prefix, .. }
+            | Call::Start { prefix, .. }
+            | Call::Datagram { prefix, .. }
+            | Call::Tick { prefix }
+            | Call::Ask { prefix, .. }
+            | Call::Answer { prefix, .. }
+            | Call::AskTick { prefix, .. } => *prefix = new,
+        }
+        call
     }
 }
 

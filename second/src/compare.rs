@@ -64,7 +64,7 @@ fn hexadecimal(octets: &[u8]) -> String {
 }
 
 /// The entry in hexadecimal and in readable form, the octets of datagrams, tables and names in hexadecimal too.
-fn describe(number: usize, call: &Call) -> String {
+pub fn describe(number: usize, call: &Call) -> String {
     let mut readable = format!("{call:?}");
     if let Call::Table(octets)
     | Call::Datagram { octets, .. }

@@ -43,7 +43,7 @@ impl Host {
         let known = Some(number).filter(|number| *number < lent.names.len());
         let last = if fault == faults::START_TIME_LAST { 4 } else { 0 };
         if let Some(no) = first(START, &self.view(lent, prefix, known, fault), last) {
-            return refused(no, lent);
+            return self.refuse(lent, prefix, no, fault);
         }
         let shared = lent.names[number].shared;
         self.clock = prefix.time;
@@ -58,24 +58,35 @@ impl Host {
     pub fn tick(&mut self, lent: &Lent, prefix: &Prefix, fault: Fault) -> Outcome {
         let last = if fault == faults::TICK_TABLE_LAST { 2 } else { 0 };
         if let Some(no) = first(TICK, &self.view(lent, prefix, None, fault), last) {
-            return refused(no, lent);
+            return self.refuse(lent, prefix, no, fault);
         }
-        let mut due = (0..lent.names.len())
-            .map(|number| (number, self.standing(prefix, number, fault)))
-            .filter(|(_, standing)| standing.is_due(prefix.time, fault));
+        let mut due = self.due(lent, prefix, fault).into_iter();
         let served = if fault == faults::SERVES_HIGHEST { due.next_back() } else { due.next() };
         if served.is_some() || fault != faults::QUIET_KEEPS_CLOCK {
             self.clock = prefix.time;
         }
-        let Some((number, standing)) = served else { return Outcome::Quiet };
-        self.add(prefix, number, Accepted::Tick { time: prefix.time });
+        let Some((place, number, standing)) = served else { return Outcome::Quiet };
+        self.add(&place, number, Accepted::Tick { time: prefix.time });
         match standing {
             Standing::Verifying { first_id, sends, .. } if sends < SENDS => {
                 let id = if fault == faults::REPEAT_CALL_ID { prefix.id } else { first_id };
-                self.check_query(lent, prefix, number, id)
+                self.check_query(lent, &place, number, id)
             }
             _ => Outcome::Unique { name: number as u8 },
         }
+    }
+
+    /// The names that are due on the call's interface, each with the call's prefix there; by a planted fault those of
+    /// every interface.
+    fn due(&self, lent: &Lent, prefix: &Prefix, fault: Fault) -> Vec<(Prefix, usize, Standing)> {
+        let here = prefix.interface..=prefix.interface;
+        let interfaces = if fault == faults::SERVES_ANY_INTERFACE { 0..=3 } else { here };
+        let places = interfaces.map(|interface| Prefix { interface, ..*prefix });
+        places
+            .flat_map(|place| (0..lent.names.len()).map(move |number| (place, number)))
+            .map(|(place, number)| (place, number, self.standing(&place, number, fault)))
+            .filter(|(_, _, standing)| standing.is_due(prefix.time, fault))
+            .collect()
     }
 
     pub fn receive(&mut self, lent: &Lent, prefix: &Prefix, arrival: &Arrival, fault: Fault) -> Outcome {
@@ -91,7 +102,7 @@ impl Host {
             if fault == faults::REFUSAL_SETS_CLOCK && no > 4 {
                 self.clock = prefix.time;
             }
-            return refused(no, lent);
+            return self.refuse(lent, prefix, no, fault);
         }
         // What the checks let by has a question for a name of the table.
         let (Some(number), Some(question)) = (number, &message.question) else { return Outcome::Quiet };
@@ -104,6 +115,14 @@ impl Host {
                 Outcome::Reply { to: Endpoint { address: arrival.source, port: arrival.port }, octets }
             }
         }
+    }
+
+    /// A refusal changes nothing, but for a planted fault.
+    fn refuse(&mut self, lent: &Lent, prefix: &Prefix, no: u8, fault: Fault) -> Outcome {
+        if fault == faults::REFUSED_TIME_SETS_CLOCK && no == 4 {
+            self.clock = prefix.time;
+        }
+        refused(no, lent)
     }
 
     /// A response to a check or a defence: whether the name stops follows from the list with the response in it.
@@ -141,7 +160,10 @@ impl Host {
     fn view<'a>(&'a self, lent: &'a Lent, prefix: &'a Prefix, number: Option<usize>, fault: Fault) -> HostView<'a> {
         let setting = interfaces::setting(&self.settings, prefix.interface);
         let given = Given { fault, prefix, settings: &self.settings, setting, earliest: self.clock };
-        let standing = number.map_or(Standing::Off, |number| self.standing(prefix, number, fault));
+        let standing = number.map_or(Standing::Off, |number| match fault {
+            faults::STATE_OF_ANY_INTERFACE => self.standing_anywhere(prefix, number, fault),
+            _ => self.standing(prefix, number, fault),
+        });
         HostView { given, lent, number, standing }
     }
 
@@ -150,6 +172,12 @@ impl Host {
         let setting = interfaces::setting(&self.settings, prefix.interface);
         let history = self.histories.get(usize::from(prefix.interface)).and_then(|names| names.get(number));
         history.map_or(Standing::Off, |history| history.standing(&setting, fault))
+    }
+
+    /// What a planted fault takes the name for.
+    fn standing_anywhere(&self, prefix: &Prefix, number: usize, fault: Fault) -> Standing {
+        let on = |interface| self.standing(&Prefix { interface, ..*prefix }, number, fault);
+        (0..=3).map(on).find(|standing| *standing != Standing::Off).unwrap_or(Standing::Off)
     }
 
     fn add(&mut self, prefix: &Prefix, number: usize, call: Accepted) {

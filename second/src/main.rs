@@ -1,7 +1,7 @@
 //! The commands of the second program.
 
 use second::options::Options;
-use second::{compare, links, make, pairs, planted, session};
+use second::{compare, links, make, orders, pairs, planted, session};
 use std::io::{Read, Write};
 use std::process::exit;
 
@@ -10,6 +10,8 @@ const USAGE: &str = "usage: second COMMAND
   make SEED [CALLS]     a random call file on standard output
   compare [OPTIONS]     both programs on random call files; the lines must be equal
   faults [OPTIONS]      each planted fault must be found by the comparison
+  orders [OPTIONS]      two calls on two interfaces at one time, made in either order
+                        (only --program, --from, --jobs, and --pairs N (20000))
   links [OPTIONS]       several hosts on one link in simulation, by both programs
                         (only --program, --from, --jobs, and --runs N)
   timeline              a picture of one start of a link
@@ -64,6 +66,7 @@ fn main() {
         "make" => make_file(rest),
         "compare" => with_options(rest, compare::compare),
         "faults" => with_options(rest, planted::planted),
+        "orders" => orders::orders(rest),
         "links" => links::links(rest),
         "timeline" => links::timeline(rest),
         "names" => pairs::pairs(rest),

@@ -201,21 +201,6 @@ fn with_octets(call: &Call, new: Vec<u8>) -> Call {
     call
 }
 
-fn with_prefix(call: &Call, new: Prefix) -> Call {
-    let mut call = call.clone();
-    match &mut call {
-        Call::SetUp { prefix, .. }
-        | Call::Start { prefix, .. }
-        | Call::Datagram { prefix, .. }
-        | Call::Tick { prefix }
-        | Call::Ask { prefix, .. }
-        | Call::Answer { prefix, .. }
-        | Call::AskTick { prefix, .. } => *prefix = new,
-        Call::Table(_) | Call::Settings(_) | Call::Name { .. } => {}
-    }
-    call
-}
-
 fn with_addresses(call: &Call, from: Address, to: Address, number: u16) -> Call {
     let mut call = call.clone();
     if let Call::Datagram { source, destination, port, .. } | Call::Answer { source, destination, port, .. } = &mut call
@@ -256,7 +241,7 @@ fn simpler_calls(call: &Call) -> Vec<Call> {
         }
     }
     if let Some(prefix) = call.prefix() {
-        found.extend(simpler_prefixes(prefix).into_iter().map(|prefix| with_prefix(call, prefix)));
+        found.extend(simpler_prefixes(prefix).into_iter().map(|prefix| call.with_prefix(prefix)));
     }
     found
 }

@@ -4,10 +4,10 @@
 use crate::calls::{read, Call};
 use crate::faults;
 use crate::names::{is_reverse, read_plain};
-use std::collections::BTreeMap;
+use crate::rows::Rows;
 
 /// Calls with the outcomes and refusal numbers that the rules' orders of checks give. Datagrams go by their QR bit.
-const EXPECTED: [(&str, &str); 16] = [
+const EXPECTED: &[(&str, &str)] = &[
     ("table", "good 2"),
     ("set-up", "ready 2 4 20"),
     ("start", "shared query 1 2 3 4 12 19"),
@@ -38,9 +38,14 @@ const EXPECTED: [(&str, &str); 16] = [
 
 const LAST_TIME: &str = "281474976710655";
 
-#[derive(Default)]
 pub struct Tally {
-    counts: BTreeMap<(&'static str, String), u64>,
+    rows: Rows,
+}
+
+impl Default for Tally {
+    fn default() -> Tally {
+        Tally { rows: Rows::new(EXPECTED) }
+    }
 }
 
 /// A printed line: the call's word, the outcome's word, and its fields.
@@ -211,14 +216,6 @@ fn of_note_in_pair(before: &Line, line: &Line) -> Option<&'static str> {
 }
 
 impl Tally {
-    fn count(&mut self, row: &'static str, outcome: &str) {
-        if let Some(count) = self.counts.get_mut(&(row, outcome.to_string())) {
-            *count += 1;
-        } else {
-            self.counts.insert((row, outcome.to_string()), 1);
-        }
-    }
-
     /// Counts the lines that were printed for a file.
     pub fn add(&mut self, file: &[u8], text: &str) {
         let (calls, _) = read(file);
@@ -226,57 +223,31 @@ impl Tally {
         for (number, line) in text.lines().enumerate() {
             let line = Line::read(line);
             let call = calls.get(number);
-            self.count(row(&line, call), line.outcome());
+            self.rows.count(row(&line, call), line.outcome());
             if line.what == "reply" {
-                of_note_in_reply(&line).into_iter().for_each(|note| self.count("of note: replies", note));
+                of_note_in_reply(&line).into_iter().for_each(|note| self.rows.count("of note: replies", note));
             }
-            of_note_in_ask(&line, call).into_iter().for_each(|note| self.count("of note: asks", note));
-            of_note(&line, call).into_iter().for_each(|note| self.count("of note: others", note));
+            of_note_in_ask(&line, call).into_iter().for_each(|note| self.rows.count("of note: asks", note));
+            of_note(&line, call).into_iter().for_each(|note| self.rows.count("of note: others", note));
             if let Some(note) = before.and_then(|before| of_note_in_pair(&before, &line)) {
-                self.count("of note: others", note);
+                self.rows.count("of note: others", note);
             }
             before = Some(line);
         }
     }
 
     pub fn merge(&mut self, other: Tally) {
-        for (key, count) in other.counts {
-            *self.counts.entry(key).or_insert(0) += count;
-        }
-    }
-
-    fn of(&self, row: &'static str, outcome: &str) -> u64 {
-        self.counts.get(&(row, outcome.to_string())).copied().unwrap_or(0)
+        self.rows.merge(other.rows);
     }
 
     /// One line for each kind of call, with its outcomes and their counts.
     pub fn table(&self) -> String {
-        let mut table = String::new();
-        for (row, outcomes) in EXPECTED {
-            let counts: Vec<String> =
-                outcomes.split_whitespace().map(|outcome| format!("{outcome}:{}", self.of(row, outcome))).collect();
-            table.push_str(&format!("{row:<22}{}\n", counts.join("  ")));
-        }
-        table
+        self.rows.table()
     }
 
     /// What was expected and not reached, and what was reached and not expected.
     pub fn faults(&self) -> Vec<String> {
-        let mut faults = Vec::new();
-        for (row, outcomes) in EXPECTED {
-            for outcome in outcomes.split_whitespace().filter(|outcome| self.of(row, outcome) == 0) {
-                faults.push(format!("never reached: {row}: {outcome}"));
-            }
-        }
-        for ((row, outcome), count) in &self.counts {
-            let known = EXPECTED
-                .iter()
-                .any(|(name, outcomes)| name == row && outcomes.split_whitespace().any(|expected| expected == outcome));
-            if !known {
-                faults.push(format!("not expected: {row}: {outcome} ({count} times)"));
-            }
-        }
-        faults
+        self.rows.faults()
     }
 }
 
@@ -291,10 +262,10 @@ mod tests {
         let file = [Call::Tick { prefix }.encode(), Call::Table(Vec::new()).encode(), vec![1]].concat();
         let mut tally = Tally::default();
         tally.add(&file, "0 tick if=0 t=5 id=6 refused no=3\n1 table good names=0\nend at=23 why=cut\n");
-        assert_eq!(tally.of("tick", "3"), 1);
-        assert_eq!(tally.of("table", "good"), 1);
-        assert_eq!(tally.of("of note: others", "no-names"), 1);
-        assert_eq!(tally.of("end", "cut"), 1);
+        assert_eq!(tally.rows.of("tick", "3"), 1);
+        assert_eq!(tally.rows.of("table", "good"), 1);
+        assert_eq!(tally.rows.of("of note: others", "no-names"), 1);
+        assert_eq!(tally.rows.of("end", "cut"), 1);
         assert!(tally.faults().iter().all(|fault| fault.starts_with("never reached: ")));
         tally.add(&file, "0 tick if=0 t=5 id=6 refused no=5\n");
         assert!(tally.faults().contains(&"not expected: tick: 5 (1 times)".to_string()));

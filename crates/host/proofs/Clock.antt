@@ -13,13 +13,13 @@ use Rattle.refusal.specs.Numbers.{Report}
 use Rattle.refusal.specs.Checks.{pass, Verdict, refused as refusedBy, passed, verdict}
 use Rattle.name_table.specs.Check.{checkTable, namesIn}
 use Rattle.host.specs.Bounds.{latest}
-use Rattle.host.specs.State.{interfaceOf, settingOf, stateOf, withClock}
+use Rattle.host.specs.State.{interfaceOf, stateOf, withClock}
 use Rattle.host.specs.Outcomes.{Done, refusal}
 use Rattle.host.specs.Early.{badClock, early}
 use Rattle.host.specs.Start.{nameChecks, startChecks, startIf, start}
 use Rattle.host.specs.Tick.{Due, due, none, dueFrom, serve, serveDue, tickIf, tick}
-use Rattle.host.specs.Receive.{Arrival, header, question, nameNumber, datagramChecks, queryChecks, responseChecks, receiveChecks, Decision, answer, defend, stop, keep, decision, effect, receiveIf, receive}
-use Rattle.host.specs.Laws.{Accepted, SameTold, SameButClock}
+use Rattle.host.specs.Receive.{Arrival, question, nameNumber, receiveChecks, Decision, answer, defend, stop, keep, decision, effect, receiveIf, receive}
+use Rattle.host.specs.Laws.{Accepted, SameButClock}
 use Rattle.host.specs.declared.NameState.{NameState}
 use Rattle.host.specs.declared.NameState.the-variants.{Off, Verifying, Unique, Defending, Stopped, Shared}
 use Rattle.host.specs.declared.Host.{Host}
@@ -41,7 +41,7 @@ receive-in-time h a x = arrives-is h a (receive-checked h a x) .called .in-order
 
 -- ---- Of the clock a call looks at whether its time is before it, and at nothing else.
 
--- what is the same is the same but for the clock; and so are two refusals
+-- what is the same is the same but for the clock
 same : (d : Done) → SameButClock d d
 same d = record { told = record { result = refl; to = refl; octets = refl }; interfaces = refl }
 
@@ -58,6 +58,7 @@ module _ (h : Host) (clock time : ℕ) (alike : (time < h .clock) ↔ (time < cl
   same-clock : badClock (h .clock) time ≡ badClock clock time
   same-clock = ap (λ (b : Bool). ltb latest time or b) same-test
 
+  -- and so are two refusals, with the two clocks
   refused-alike : (out : List ℕ) (t : Report) → SameButClock (refusal h out t) (refusal g out t)
   refused-alike out t = record { told = record { result = refl; to = refl; octets = refl }; interfaces = refl }
 

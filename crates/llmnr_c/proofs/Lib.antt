@@ -4,3 +4,4 @@ pub mod Told
 pub mod Calls
 pub mod Taken
 pub mod Whole
+pub mod Order

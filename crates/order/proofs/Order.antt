@@ -26,8 +26,12 @@ use Rattle.order.proofs.Frame.{framed}
 abbrev then : Call → Host → Host
 then c h = made c h .host
 
-abbrev IsRefused : Done → Type 0
+abbrev pub IsRefused : Done → Type 0
 IsRefused d = (t : Report) × (d .result ≡ refused t)
+
+-- of two that tell the same, both are accepted if one is
+pub still : {d e : Done} → Accepted d → SameTold d e → Accepted e
+still a s t q = a t (s .result ∙ q)
 
 -- the other interfaces, and the settings
 others : (c : Call) (h : Host) (n : ℕ) → n ≢ interfaceIn c → interfaceOf (then c h) n ≡ interfaceOf h n
@@ -38,7 +42,7 @@ settings-stay c h = framed c .changes h .only .settings
 
 -- ---- a call after another
 
-turned : {c e : Call} → OneMoment c e → OneMoment e c
+pub turned : {c e : Call} → OneMoment c e → OneMoment e c
 turned m = record { apart = λ q. m .apart (sym q); same-time = sym (m .same-time) }
 
 -- Of two calls of one moment the second does not notice the first: it tells what it tells without it, and its own interface is then the
@@ -111,9 +115,6 @@ both-accepted c e h m a b =
     (framed e .clock-set (then c h) (still b (unnoticed c e h m .tells))
     ∙ sym (m .same-time)
     ∙ sym (framed c .clock-set (then e h) (still a (unnoticed e c h (turned m) .tells))))
-  where
-    still : {d f : Done} → Accepted d → SameTold d f → Accepted f
-    still y s t q = y t (s .result ∙ q)
 
 same-end : (c e : Call) (h : Host) → OneMoment c e → then e (then c h) ≡ then c (then e h)
 same-end c e h m =

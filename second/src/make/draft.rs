@@ -2,7 +2,7 @@
 
 use super::memory::LAST_TIME;
 use super::{addresses, names};
-use crate::calls::{Address, Prefix, Setting};
+use crate::calls::{Address, Call, Prefix, Setting};
 use crate::random::Random;
 
 pub const RESPONSE: u16 = 0x8000;
@@ -41,6 +41,12 @@ impl Draft {
             octets.resize(length, 0);
         }
         octets
+    }
+
+    /// The call of a host's receive with these octets, which are the draft's or others.
+    pub fn call(&self, octets: Vec<u8>) -> Call {
+        let Draft { prefix, source, port, destination, .. } = *self;
+        Call::Datagram { prefix, source, port, destination, octets }
     }
 
     /// The offset where the answers of a response begin.

@@ -5,7 +5,7 @@ use super::memory::{Memory, State, LAST_TIME};
 use super::{addresses, damage, names, tables, Maker};
 use crate::calls::{Address, Call, Prefix};
 
-const WAITING: [State; 2] = [State::Verifying, State::Defending];
+pub const WAITING: [State; 2] = [State::Verifying, State::Defending];
 const ACTIVE: [State; 4] = [State::Verifying, State::Unique, State::Defending, State::Shared];
 
 impl Maker {
@@ -199,6 +199,11 @@ impl Maker {
         } else {
             self.random.pick(&chosen)
         };
+        self.query_for(interface, name, notice)
+    }
+
+    /// A query for the name of this number on an interface, 0 to 3.
+    pub fn query_for(&mut self, interface: usize, name: usize, notice: bool) -> Draft {
         let spelt = self.spelt(name);
         let mut draft = self.draft(interface, spelt);
         let random = &mut self.random;
@@ -229,6 +234,11 @@ impl Maker {
         } else {
             self.random.pick(&waiting)
         };
+        self.response_for(interface, name)
+    }
+
+    /// A response to the check of the name of this number on an interface, 0 to 3.
+    pub fn response_for(&mut self, interface: usize, name: usize) -> Draft {
         let check = self.memory.checks[interface][name.min(7)];
         let spelt = self.spelt(name);
         let mut draft = self.draft(interface, spelt);
@@ -255,11 +265,16 @@ impl Maker {
             // Little would come of it: something is set going instead.
             return if self.random.chance(1, 2) { self.start() } else { self.tick() };
         }
-        let mut draft = match aim {
+        let draft = match aim {
             0 => self.query(false),
             1 => self.query(true),
             _ => self.response(),
         };
+        self.spoilt(draft)
+    }
+
+    /// The datagram of a draft, with a few slips in some.
+    pub fn spoilt(&mut self, mut draft: Draft) -> Call {
         let interface = usize::from(draft.prefix.interface).min(3);
         for _ in 0..draft::slips(&mut self.random) {
             let near = Near { settings: &self.memory.settings, interface, clock: self.memory.clock, pool: &self.pool };
@@ -270,7 +285,6 @@ impl Maker {
             let length = self.random.below(60);
             octets = self.random.octets(length);
         }
-        let Draft { prefix, source, port, destination, .. } = draft;
-        Call::Datagram { prefix, source, port, destination, octets }
+        draft.call(octets)
     }
 }

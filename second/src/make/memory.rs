@@ -8,7 +8,7 @@ use crate::lines::Outcome;
 /// The largest time that a call may have.
 pub const LAST_TIME: u64 = (1 << 48) - 1;
 
-#[derive(Clone, Copy, PartialEq, Eq)]
+#[derive(Clone, Copy, PartialEq, Eq, Debug)]
 pub enum State {
     Off,
     Verifying,
@@ -25,10 +25,12 @@ pub struct Check {
     pub id: u16,
     pub qtype: u16,
     pub class: u16,
+    /// How often it was sent since the start or the notice.
+    pub sends: usize,
     pub due: u64,
 }
 
-const OFF: Check = Check { state: State::Off, id: 0, qtype: 0, class: 0, due: 0 };
+const OFF: Check = Check { state: State::Off, id: 0, qtype: 0, class: 0, sends: 0, due: 0 };
 
 #[derive(Clone, Copy, PartialEq, Eq)]
 pub enum Phase {
@@ -144,8 +146,10 @@ impl Memory {
                 let check = &mut checks[number(name)];
                 check.due = prefix.time + interval;
                 if matches!(call, Call::Tick { .. }) {
+                    check.sends += 1;
                     return;
                 }
+                check.sends = 1;
                 let start = matches!(call, Call::Start { .. });
                 check.state = if start { State::Verifying } else { State::Defending };
                 check.id = prefix.id;

@@ -3,6 +3,7 @@
 //! remembers; it is right up to the first line in which two programs differ, and no line after that one counts.
 
 mod addresses;
+mod beginnings;
 mod damage;
 mod draft;
 mod ends;
@@ -12,8 +13,10 @@ mod memory;
 mod names;
 pub mod pairs;
 mod pointers;
+mod probes;
 mod reverse;
 mod sheet;
+pub mod situations;
 mod tables;
 
 use crate::calls::Call;
