@@ -8,13 +8,13 @@ use mathlib.Core.Bool.{Bool}
 use lib.ListN.{length}
 use lib.Dec.{ltb}
 use Rattle.octets.specs.Tests.{_or_}
+use Rattle.octets.specs.declared.Endpoint.{Endpoint}
 use Rattle.octets.proofs.Tests.{split, never, below-number}
-use Rattle.refusal.specs.Numbers.{Report}
 use Rattle.refusal.specs.Checks.{pass, Verdict, refused as refusedBy, passed, verdict}
 use Rattle.name_table.specs.Check.{checkTable, namesIn}
 use Rattle.host.specs.Bounds.{latest}
 use Rattle.host.specs.State.{interfaceOf, stateOf, withClock}
-use Rattle.host.specs.Outcomes.{Done, refusal}
+use Rattle.host.specs.Outcomes.{Result}
 use Rattle.host.specs.Early.{badClock, early}
 use Rattle.host.specs.Start.{nameChecks, startChecks, startIf, start}
 use Rattle.host.specs.Tick.{Due, due, none, dueFrom, serve, serveDue, tickIf, tick}
@@ -22,6 +22,7 @@ use Rattle.host.specs.Receive.{Arrival, question, nameNumber, receiveChe
 use Rattle.host.specs.Laws.{Accepted, SameButClock}
 use Rattle.host.specs.declared.NameState.{NameState}
 use Rattle.host.specs.declared.NameState.the-variants.{Off, Verifying, Unique, Defending, Stopped, Shared}
+use Rattle.host.specs.declared.Interface.{Interface}
 use Rattle.host.specs.declared.Host.{Host}
 use Rattle.host.proofs.Called.{called-is}
 use Rattle.host.proofs.Arrives.{arrives-is}
@@ -41,9 +42,11 @@ receive-in-time h a x = arrives-is h a (receive-checked h a x) .called .in-order
 
 -- ---- Of the clock a call looks at whether its time is before it, and at nothing else.
 
--- what is the same is the same but for the clock
-same : (d : Done) → SameButClock d d
-same d = record { told = record { result = refl; to = refl; octets = refl }; interfaces = refl }
+-- the same, with any two clocks
+same : {l : List Interface} {c k : ℕ} {r : Result} {to : Endpoint} {octets : List ℕ}
+    → SameButClock (record { host = record { interfaces = l; clock = c }; result = r; to = to; octets = octets })
+    (record { host = record { interfaces = l; clock = k }; result = r; to = to; octets = octets })
+same = record { told = record { result = refl; to = refl; octets = refl }; interfaces = refl }
 
 module _ (h : Host) (clock time : ℕ) (alike : (time < h .clock) ↔ (time < clock)) where
   abbrev g : Host
@@ -58,10 +61,6 @@ module _ (h : Host) (clock time : ℕ) (alike : (time < h .clock) ↔ (time < cl
   same-clock : badClock (h .clock) time ≡ badClock clock time
   same-clock = ap (λ (b : Bool). ltb latest time or b) same-test
 
-  -- and so are two refusals, with the two clocks
-  refused-alike : (out : List ℕ) (t : Report) → SameButClock (refusal h out t) (refusal g out t)
-  refused-alike out t = record { told = record { result = refl; to = refl; octets = refl }; interfaces = refl }
-
   start-alike : (table : List ℕ) (i k id : ℕ) (out : List ℕ) → SameButClock (start h table i k time id out) (start g table i k time id out)
   unfolding start
   start-alike table i k id out =
@@ -72,8 +71,8 @@ module _ (h : Host) (clock time : ℕ) (alike : (time < h .clock) ↔ (time < cl
       checks = let e = same-clock in cc
 
       go : (v : Verdict) → SameButClock (startIf v h table i k time id out) (startIf v g table i k time id out)
-      go (refusedBy t) = refused-alike out t
-      go passed = same _
+      go (refusedBy t) = same
+      go passed = same
 
   tick-alike : (table : List ℕ) (i id : ℕ) (out : List ℕ) → SameButClock (tick h table i time id out) (tick g table i time id out)
   unfolding tick
@@ -85,19 +84,19 @@ module _ (h : Host) (clock time : ℕ) (alike : (time < h .clock) ↔ (time < cl
       checks = let e = same-clock in cc
 
       by : (s : NameState) (k : ℕ) → SameButClock (serve s h table i k time out) (serve s g table i k time out)
-      by (Verifying sends own timer) k = same _
-      by (Defending own qtype class timer) k = same _
-      by Off k = same _
-      by Unique k = same _
-      by Stopped k = same _
-      by Shared k = same _
+      by (Verifying sends own timer) k = same
+      by (Defending own qtype class timer) k = same
+      by Off k = same
+      by Unique k = same
+      by Stopped k = same
+      by Shared k = same
 
       serves : (d : Due) → SameButClock (serveDue d h table i time out) (serveDue d g table i time out)
       serves (due k) = by (stateOf h i k) k
-      serves none = same _
+      serves none = same
 
       go : (v : Verdict) → SameButClock (tickIf v h table i time out) (tickIf v g table i time out)
-      go (refusedBy t) = refused-alike out t
+      go (refusedBy t) = same
       go passed = serves (dueFrom (length (namesIn (checkTable table))) (interfaceOf h i .names) 0 time)
 
 pub start-clock-alike : (h : Host) (clock : ℕ) (table : List ℕ) (i k time id : ℕ) (out : List ℕ) → (time < h .clock) ↔ (time < clock)
@@ -119,11 +118,11 @@ receive-clock-alike h clock a alike =
     checks = let e = same-clock h clock (a .time) alike in cc
 
     by : (d : Decision) → SameButClock (effect d h a (question a) (nameNumber a)) (effect d (withClock h clock) a (question a) (nameNumber a))
-    by answer = same _
-    by defend = same _
-    by stop = same _
-    by keep = same _
+    by answer = same
+    by defend = same
+    by stop = same
+    by keep = same
 
     go : (v : Verdict) → SameButClock (receiveIf v h a) (receiveIf v (withClock h clock) a)
-    go (refusedBy t) = refused-alike h clock (a .time) alike (a .out) t
+    go (refusedBy t) = same
     go passed = by (decision h a)
