@@ -154,6 +154,7 @@ typedef struct llmnr_names {
  *     llmnr_take(&host, i, s);
  *
  * What a call comes to depends on no name of another interface. With an interface number above 3 it is refused, whatever names it is given.
+ * Two calls on different interfaces at the same time give the same in either order (C16).
  */
 typedef struct llmnr_host {
     llmnr_settings settings;

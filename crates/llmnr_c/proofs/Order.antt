@@ -23,7 +23,7 @@ use Rattle.order.proofs.Order.{IsRefused, turned, still}
 use Rattle.llmnr_c.specs.Numbers.{stateOff}
 use Rattle.llmnr_c.specs.Outcomes.{flatOutcome}
 use Rattle.llmnr_c.specs.FlatHost.{seen, flatState, noNames, bare, stepOn, namesAfter}
-use Rattle.llmnr_c.specs.Order.{given, flatMade, taken, SameStep, EitherOrder}
+use Rattle.llmnr_c.specs.Order.{given, flatMade, taken, SameStep, TwoPorts}
 use Rattle.llmnr_c.specs.declared.flat.FlatName.{FlatName}
 use Rattle.llmnr_c.specs.declared.flat.FlatNames.{FlatNames}
 use Rattle.llmnr_c.specs.declared.flat.FlatHost.{FlatHost}
@@ -128,7 +128,7 @@ same-end c e f m =
     (refused-or (made c (given c f)))
 
 -- Two ports, one moment.
-pub either-order : (f : FlatHost) (c e : Call) → OneMoment c e → EitherOrder f c e
+pub either-order : TwoPorts
 either-order f c e m =
     record {
       state = same-end c e f m;

@@ -4,6 +4,7 @@ use mathlib.Core.Path.{_≡_}
 use lib.ListN.{getD}
 use Rattle.host.specs.declared.Host.{Host}
 use Rattle.order.specs.Calls.{Call, made, interfaceIn}
+use Rattle.order.specs.Order.{OneMoment}
 use Rattle.llmnr_c.specs.FlatHost.{seen, noNames, FlatDone, stepOn, take}
 use Rattle.llmnr_c.specs.declared.flat.FlatHost.{FlatHost}
 
@@ -31,3 +32,7 @@ pub record EitherOrder (f : FlatHost) (c e : Call) : Type 0 where
   -- c made first and c made after e; and e
   pub one : SameStep (flatMade c f) (flatMade c (taken e f))
   pub other : SameStep (flatMade e f) (flatMade e (taken c f))
+
+-- The theorem.
+abbrev pub TwoPorts : Type 0
+TwoPorts = (f : FlatHost) (c e : Call) → OneMoment c e → EitherOrder f c e

@@ -11,7 +11,7 @@ use Rattle.host.specs.Laws.{SameTold}
 use Rattle.host.specs.declared.Host.{Host}
 use Rattle.order.specs.Calls.{Call, made, interfaceIn}
 use Rattle.order.specs.Order.{OneMoment}
-use Rattle.order.specs.Interleaved.{IsAt, AllAt, Interleaves, neither, from-first, from-second, after, Told, told, allTold, toldOn, AsAlone, SameRun}
+use Rattle.order.specs.Interleaved.{IsAt, AllAt, Interleaves, ended, from-first, from-second, after, Told, told, allTold, toldOn, AsAlone, EachAsAlone, EveryWay}
 use Rattle.order.proofs.Order.{either-order}
 
 -- ---- lists
@@ -35,55 +35,55 @@ told-elsewhere i t ts n = rw (ne-eqb (t .interface) i n)
 
 -- ---- a call before a list of calls on another interface, or after it
 
-module _ (time : ℕ) where
-  moment : {i j : ℕ} {c e : Call} → i ≢ j → IsAt i time c → IsAt j time e → OneMoment c e
-  moment n a b =
-      record { apart = λ q. n (sym (a .interface) ∙ q ∙ b .interface); same-time = a .moment ∙ sym (b .moment) }
+moment : {i j time : ℕ} {c e : Call} → i ≢ j → IsAt i time c → IsAt j time e → OneMoment c e
+moment n a b = record { apart = λ q. n (sym (a .interface) ∙ q ∙ b .interface); same-time = a .moment ∙ sym (b .moment) }
 
-  record Past (h : Host) (c : Call) (xs : List Call) : Type 0 where
-    state : after (made c h .host) xs ≡ made c (after h xs) .host
-    they : allTold (made c h .host) xs ≡ allTold h xs
+record Past (h : Host) (c : Call) (xs : List Call) : Type 0 where
+  state : after (made c h .host) xs ≡ made c (after h xs) .host
+  they : allTold (made c h .host) xs ≡ allTold h xs
 
-  past : {i j : ℕ} → i ≢ j → (c : Call) → IsAt j time c → (xs : List Call) → AllAt i time xs → (h : Host) → Past h c xs
-  past n c p [] a h = record { state = refl; they = refl }
-  past n c p (x ∷ xs) a h =
-      let o = either-order h x c (moment n (a .0) p) in
-      let r = past n c p xs (a .1) (made x h .host) in
-      record {
-        state = ap (λ (g : Host). after g xs) (sym (o .state)) ∙ r .state;
-        they =
-            ap (λ (t : Told). t ∷ allTold (made x (made c h .host) .host) xs) (sym (same-told x h (made c h .host) (o .one)))
-            ∙ ap (λ (l : List Told). told x h ∷ l) (ap (λ (g : Host). allTold g xs) (sym (o .state)) ∙ r .they);
-      }
+past : {i j time : ℕ} → i ≢ j → (c : Call) → IsAt j time c → (xs : List Call) → AllAt i time xs → (h : Host) → Past h c xs
+past n c p [] a h = record { state = refl; they = refl }
+past n c p (x ∷ xs) a h =
+    let o = either-order h x c (moment n (a .0) p) in
+    let r = past n c p xs (a .1) (made x h .host) in
+    record {
+      state = ap (λ (g : Host). after g xs) (sym (o .state)) ∙ r .state;
+      they =
+          ap (λ (t : Told). t ∷ allTold (made x (made c h .host) .host) xs) (sym (same-told x h (made c h .host) (o .one)))
+          ∙ ap (λ (l : List Told). told x h ∷ l) (ap (λ (g : Host). allTold g xs) (sym (o .state)) ∙ r .they);
+    }
 
-  -- Each list gives what it gives alone, and the state is the same as after the first and then the second.
-  pub as-alone : {i j : ℕ} → i ≢ j → {xs ys zs : List Call} → AllAt i time xs → AllAt j time ys → Interleaves xs ys zs
-      → (h : Host) → AsAlone h i j xs ys zs
-  as-alone n a b neither h = record { state = refl; first = refl; second = refl }
-  as-alone {i} {j} n a b (from-first {c} {xs} {ys} {zs} m) h =
-      let r = as-alone n (a .1) b m (made c h .host) in
-      record {
-        state = r .state;
-        first = told-here i (told c h) (allTold (made c h .host) zs) (a .0 .interface) ∙ ap (λ (l : List Told). told c h ∷ l) (r .first);
-        second =
-            told-elsewhere j (told c h) (allTold (made c h .host) zs) (λ q. n (sym (a .0 .interface) ∙ q))
-            ∙ r .second ∙ past (λ q. n (sym q)) c (a .0) ys b h .they;
-      }
-  as-alone {i} {j} n a b (from-second {c} {xs} {ys} {zs} m) h =
-      let r = as-alone n a (b .1) m (made c h .host) in
-      let p = past n c (b .0) xs a h in
-      record {
-        state =
-            r .state ∙ after-both (made c h .host) xs ys ∙ ap (λ (g : Host). after g ys) (p .state) ∙ sym (after-both h xs (c ∷ ys));
-        first =
-            told-elsewhere i (told c h) (allTold (made c h .host) zs) (λ q. n (sym q ∙ b .0 .interface)) ∙ r .first ∙ p .they;
-        second = told-here j (told c h) (allTold (made c h .host) zs) (b .0 .interface) ∙ ap (λ (l : List Told). told c h ∷ l) (r .second);
-      }
+-- ---- the lists
 
-  -- So two ways to interleave them give the same.
-  pub any-order : {i j : ℕ} → i ≢ j → {xs ys zs ws : List Call} → AllAt i time xs → AllAt j time ys → Interleaves xs ys zs → Interleaves xs ys ws
-      → (h : Host) → SameRun h i j zs ws
-  any-order n a b m k h =
-      let r = as-alone n a b m h in
-      let s = as-alone n a b k h in
-      record { state = r .state ∙ sym (s .state); first = r .first ∙ sym (s .first); second = r .second ∙ sym (s .second) }
+alone : {i j : ℕ} (time : ℕ) → i ≢ j → {xs ys zs : List Call} → AllAt i time xs → AllAt j time ys → Interleaves xs ys zs → (h : Host)
+    → AsAlone h i j xs ys zs
+alone time n a b ended h = record { state = refl; first = refl; second = refl }
+alone {i} {j} time n a b (from-first {c} {xs} {ys} {zs} m) h =
+    let r = alone time n (a .1) b m (made c h .host) in
+    record {
+      state = r .state;
+      first = told-here i (told c h) (allTold (made c h .host) zs) (a .0 .interface) ∙ ap (λ (l : List Told). told c h ∷ l) (r .first);
+      second =
+          told-elsewhere j (told c h) (allTold (made c h .host) zs) (λ q. n (sym (a .0 .interface) ∙ q))
+          ∙ r .second ∙ past (λ q. n (sym q)) c (a .0) ys b h .they;
+    }
+alone {i} {j} time n a b (from-second {c} {xs} {ys} {zs} m) h =
+    let r = alone time n a (b .1) m (made c h .host) in
+    let p = past n c (b .0) xs a h in
+    record {
+      state = r .state ∙ after-both (made c h .host) xs ys ∙ ap (λ (g : Host). after g ys) (p .state) ∙ sym (after-both h xs (c ∷ ys));
+      first = told-elsewhere i (told c h) (allTold (made c h .host) zs) (λ q. n (sym q ∙ b .0 .interface)) ∙ r .first ∙ p .they;
+      second = told-here j (told c h) (allTold (made c h .host) zs) (b .0 .interface) ∙ ap (λ (l : List Told). told c h ∷ l) (r .second);
+    }
+
+-- Each list gives what it gives alone, and the state is that after the first and then the second.
+pub as-alone : EachAsAlone
+as-alone h i j time xs ys zs n a b m = alone time n a b m h
+
+-- So two ways to interleave them give the same.
+pub any-order : EveryWay
+any-order h i j time xs ys zs ws n a b m k =
+    let r = as-alone h i j time xs ys zs n a b m in
+    let s = as-alone h i j time xs ys ws n a b k in
+    record { state = r .state ∙ sym (s .state); first = r .first ∙ sym (s .first); second = r .second ∙ sym (s .second) }

@@ -17,7 +17,7 @@ use Rattle.host.specs.declared.Host.{Host}
 use Rattle.host.proofs.Accepted.{refused-or}
 use Rattle.host.proofs.Laws.{one-host}
 use Rattle.order.specs.Calls.{Call, made, interfaceIn, timeIn}
-use Rattle.order.specs.Order.{OneMoment, EitherOrder}
+use Rattle.order.specs.Order.{OneMoment, TwoPorts}
 use Rattle.order.proofs.Frame.{framed}
 
 -- ---- one call
@@ -123,6 +123,6 @@ same-end c e h m =
     (refused-or (made c h))
 
 -- Two ports, one moment.
-pub either-order : (h : Host) (c e : Call) → OneMoment c e → EitherOrder h c e
+pub either-order : TwoPorts
 either-order h c e m =
     record { state = same-end c e h m; one = unnoticed e c h (turned m) .tells; other = unnoticed c e h m .tells }

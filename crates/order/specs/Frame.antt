@@ -12,9 +12,9 @@ use Rattle.host.specs.declared.Host.{Host}
 use Rattle.order.specs.Calls.{Call, made, interfaceIn, timeIn, bufferIn}
 
 pub record Framed (c : Call) : Type 0 where
-  -- it looks at the clock, all settings and its own interface's names: on two hosts that have these alike it gives the same
+  -- it looks at the clock, all settings and its own interface's names: on two hosts that are alike in these it gives the same
   pub looks : (h g : Host) → SameHere h g (interfaceIn c) → SameDone (made c h) (made c g) (interfaceIn c)
-  -- at the clock only to see whether its time is before it: with two clocks of which the same holds it gives the same
+  -- at the clock only to see whether its time is before it: with two clocks that are alike in this it gives the same
   pub clock-read : (h : Host) (clock : ℕ) → (timeIn c < h .clock) ↔ (timeIn c < clock) → SameButClock (made c h) (made c (withClock h clock))
   -- it changes at most one name, on its own interface, and no setting
   pub changes : (h : Host) → ChangesOne h (made c h .host) (interfaceIn c)

@@ -2,6 +2,7 @@
 -- gives alone. proofs/Interleaved.antt has the proof, from the theorem about two calls.
 use Prim.Native.Nat.{ℕ}
 use mathlib.Core.Path.{_≡_}
+use mathlib.Core.Logic.{_≢_}
 use mathlib.Core.List.{List, [], _∷_, _++_}
 use mathlib.Core.Bool.{cond}
 use lib.Dec.{eqb}
@@ -10,7 +11,7 @@ use Rattle.host.specs.Outcomes.{Result}
 use Rattle.host.specs.declared.Host.{Host}
 use Rattle.order.specs.Calls.{Call, made, interfaceIn, timeIn}
 
--- a call is on interface i, at a time; and every call of a list
+-- a call is on interface i, at a time; every call of a list is
 pub record IsAt (i time : ℕ) (c : Call) : Type 0 where
   pub interface : interfaceIn c ≡ i
   pub moment : timeIn c ≡ time
@@ -21,7 +22,7 @@ AllAt i time (c ∷ cs) = IsAt i time c × AllAt i time cs
 
 -- the third list takes the next call of the first or of the second, until both are at their ends
 pub data Interleaves : List Call → List Call → List Call → Type 0 where
-  neither : Interleaves [] [] []
+  ended : Interleaves [] [] []
   from-first : {c : Call} {xs ys zs : List Call} → Interleaves xs ys zs → Interleaves (c ∷ xs) ys (c ∷ zs)
   from-second : {c : Call} {xs ys zs : List Call} → Interleaves xs ys zs → Interleaves xs (c ∷ ys) (c ∷ zs)
 
@@ -56,8 +57,18 @@ pub record AsAlone (h : Host) (i j : ℕ) (xs ys zs : List Call) : Type 0 where
   pub first : toldOn i (allTold h zs) ≡ allTold h xs
   pub second : toldOn j (allTold h zs) ≡ allTold h ys
 
+abbrev pub EachAsAlone : Type 0
+EachAsAlone =
+    (h : Host) (i j time : ℕ) (xs ys zs : List Call) → i ≢ j → AllAt i time xs → AllAt j time ys → Interleaves xs ys zs
+    → AsAlone h i j xs ys zs
+
 -- Two ways to make calls on interfaces i and j give the same: the state, and what is told on each.
 pub record SameRun (h : Host) (i j : ℕ) (zs ws : List Call) : Type 0 where
   pub state : after h zs ≡ after h ws
   pub first : toldOn i (allTold h zs) ≡ toldOn i (allTold h ws)
   pub second : toldOn j (allTold h zs) ≡ toldOn j (allTold h ws)
+
+abbrev pub EveryWay : Type 0
+EveryWay =
+    (h : Host) (i j time : ℕ) (xs ys zs ws : List Call) → i ≢ j → AllAt i time xs → AllAt j time ys → Interleaves xs ys zs → Interleaves xs ys ws
+    → SameRun h i j zs ws

@@ -21,3 +21,7 @@ pub record EitherOrder (h : Host) (c e : Call) : Type 0 where
   pub one : SameTold (made c h) (made c (made e h .host))
   -- and e
   pub other : SameTold (made e h) (made e (made c h .host))
+
+-- The theorem.
+abbrev pub TwoPorts : Type 0
+TwoPorts = (h : Host) (c e : Call) → OneMoment c e → EitherOrder h c e
