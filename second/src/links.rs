@@ -17,28 +17,25 @@ mod through;
 mod timeline;
 mod words;
 
+use crate::options::Seeds;
 use broken::broken_premise;
 use counts::{thousands, Counts};
 use premise::PREMISES;
 use run::run;
 use seeds::each_seed;
-use std::path::{Path, PathBuf};
+use std::path::Path;
 use std::time::Instant;
 use through::through_program;
 
 /// At least this many runs for each broken premise.
 const LEAST_BROKEN: u64 = 600;
 
-struct Options {
-    program: PathBuf,
-    from: u64,
-    runs: u64,
-    jobs: usize,
-}
+/// So many runs with all premises kept, unless it is told otherwise.
+const RUNS: u64 = 3000;
 
 /// Runs links with all premises kept, then with each of four broken. Gives 0 if all came out as it must.
 pub fn links(arguments: &[String]) -> i32 {
-    let options = match read_options(arguments) {
+    let options = match Seeds::read(arguments, "--runs", RUNS) {
         Ok(options) => options,
         Err(why) => {
             eprintln!("links: {why}\nusage: second links [--program PATH] [--from N] [--runs N] [--jobs N]");
@@ -50,7 +47,7 @@ pub fn links(arguments: &[String]) -> i32 {
     for (place, premise) in PREMISES.into_iter().enumerate() {
         // Other seeds than those of the runs with all premises kept.
         let from = options.from.wrapping_add((place as u64 + 1) << 32);
-        let runs = LEAST_BROKEN.max(options.runs / 5);
+        let runs = LEAST_BROKEN.max(options.count / 5);
         good &= broken_premise(premise, &options.program, (from, runs, options.jobs));
     }
     println!(
@@ -79,30 +76,12 @@ pub fn timeline(arguments: &[String]) -> i32 {
     }
 }
 
-fn read_options(arguments: &[String]) -> Result<Options, String> {
-    let jobs = std::thread::available_parallelism().map_or(1, |jobs| jobs.get());
-    let mut options = Options { program: PathBuf::from("target/bin/run_calls"), from: 0, runs: 3000, jobs };
-    let mut rest = arguments.iter();
-    while let Some(key) = rest.next() {
-        let value = rest.next().ok_or(format!("{key} needs a value"))?;
-        let number = || value.parse::<u64>().map_err(|_| format!("{key} needs a number, not {value}"));
-        match key.as_str() {
-            "--program" => options.program = PathBuf::from(value),
-            "--from" => options.from = number()?,
-            "--runs" => options.runs = number()?,
-            "--jobs" => options.jobs = number()?.clamp(1, 256) as usize,
-            _ => return Err(format!("{key} is no option")),
-        }
-    }
-    Ok(options)
-}
-
-fn kept_premises(options: &Options) -> bool {
+fn kept_premises(options: &Seeds) -> bool {
     let began = Instant::now();
     let (mut counts, mut faults) = (Counts::default(), Vec::new());
     each_seed(
         "links",
-        (options.from, options.runs, options.jobs),
+        (options.from, options.count, options.jobs),
         |seed| check(seed, &options.program).map_err(|why| format!("seed {seed}: {why}")),
         |result| match result {
             Ok(one) => counts += one,
@@ -128,7 +107,7 @@ fn check(seed: u64, program: &Path) -> Result<Counts, String> {
     Ok(Counts::of(&run))
 }
 
-fn print_counts(counts: &Counts, options: &Options, seconds: f64) {
+fn print_counts(counts: &Counts, options: &Seeds, seconds: f64) {
     let Counts { runs, hosts, most_hosts, calls, entries, refused, quiet, ties, start_ties, .. } = *counts;
     println!(
         "links: {} runs hold from seed {}, each line equal to that of {}, in {seconds:.1} s",

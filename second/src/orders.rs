@@ -8,9 +8,9 @@ mod report;
 
 use crate::faults::{self, Fault, FAULTS};
 use crate::make::situations::{situation, Situation, Wish};
+use crate::options::Seeds;
 use crate::rows::Rows;
 use crate::workers::Queue;
-use std::path::PathBuf;
 use std::slice::from_ref;
 use std::time::Instant;
 
@@ -26,31 +26,6 @@ const MOST_FAULTY: u64 = 2_000;
 /// Those by which a call sees or serves another interface, and the one by which a refused call sets the clock.
 const PLANTED: [Fault; 3] =
     [faults::STATE_OF_ANY_INTERFACE, faults::REFUSED_TIME_SETS_CLOCK, faults::SERVES_ANY_INTERFACE];
-
-struct Options {
-    program: PathBuf,
-    from: u64,
-    pairs: u64,
-    jobs: usize,
-}
-
-fn read_options(arguments: &[String]) -> Result<Options, String> {
-    let jobs = std::thread::available_parallelism().map_or(1, |jobs| jobs.get());
-    let mut options = Options { program: PathBuf::from("target/bin/run_calls"), from: 0, pairs: JUDGED_PAIRS, jobs };
-    let mut rest = arguments.iter();
-    while let Some(key) = rest.next() {
-        let value = rest.next().ok_or(format!("{key} needs a value"))?;
-        let number = || value.parse::<u64>().map_err(|_| format!("{key} needs a number, not {value}"));
-        match key.as_str() {
-            "--program" => options.program = PathBuf::from(value),
-            "--from" => options.from = number()?,
-            "--pairs" => options.pairs = number()?,
-            "--jobs" => options.jobs = number()?.clamp(1, 256) as usize,
-            _ => return Err(format!("{key} is no option")),
-        }
-    }
-    Ok(options)
-}
 
 /// What came of many situations.
 struct Found {
@@ -74,7 +49,7 @@ impl Found {
 }
 
 /// Makes so many situations in both orders, through both programs.
-fn run(options: &Options, wish: Wish, pairs: u64) -> Found {
+fn run(options: &Seeds, wish: Wish, pairs: u64) -> Found {
     let queue = Queue::new(0, pairs.div_ceil(BATCH));
     let parts = queue.work(options.jobs, wish.words(), || work(options, wish, pairs, &queue));
     let mut found = Found::new();
@@ -85,7 +60,7 @@ fn run(options: &Options, wish: Wish, pairs: u64) -> Found {
     found
 }
 
-fn work(options: &Options, wish: Wish, pairs: u64, queue: &Queue) -> Found {
+fn work(options: &Seeds, wish: Wish, pairs: u64, queue: &Queue) -> Found {
     let mut found = Found::new();
     while let Some(batch) = queue.next() {
         let seed = options.from.wrapping_add(batch * BATCH);
@@ -111,32 +86,32 @@ fn work(options: &Options, wish: Wish, pairs: u64, queue: &Queue) -> Found {
 }
 
 /// The first of these situations that is in trouble by itself; else all of them are.
-fn culprit(options: &Options, seed: u64, situations: &[Situation], why: String) -> (u64, String) {
+fn culprit(options: &Seeds, seed: u64, situations: &[Situation], why: String) -> (u64, String) {
     let alone = |situation: &Situation| both::differing_through(&options.program, from_ref(situation)).err();
     let first = situations.iter().enumerate().find_map(|(place, situation)| Some((place, alone(situation)?)));
     first.map_or((seed, why), |(place, why)| (seed.wrapping_add(place as u64), why))
 }
 
 /// The claim itself, with what its pairs have reached.
-fn claim(options: &Options) -> bool {
+fn claim(options: &Seeds) -> bool {
     let begin = Instant::now();
-    let Found { rows, differing, trouble } = run(options, Wish::TwoInterfaces, options.pairs);
+    let Found { rows, differing, trouble } = run(options, Wish::TwoInterfaces, options.count);
     let differs = differing.into_iter().min().map(|seed| (seed, "the order matters".to_string()));
     if let Some((seed, why)) = trouble.or(differs) {
         report::report(&options.program, seed, Wish::TwoInterfaces, &why);
         return false;
     }
     let seconds = begin.elapsed().as_secs_f64();
-    println!("{} pairs of calls from seed {} made in both orders in {seconds:.1} s", options.pairs, options.from);
+    println!("{} pairs of calls from seed {} made in both orders in {seconds:.1} s", options.count, options.from);
     print!("{}", rows.table());
-    let faults = if options.pairs >= JUDGED_PAIRS { rows.faults() } else { Vec::new() };
+    let faults = if options.count >= JUDGED_PAIRS { rows.faults() } else { Vec::new() };
     faults.iter().for_each(|fault| println!("{fault}"));
     faults.is_empty()
 }
 
 /// Pairs that the claim does not cover: in some the order must matter.
-fn beyond_claim(options: &Options, wish: Wish) -> bool {
-    let pairs = (options.pairs / 10).max(200);
+fn beyond_claim(options: &Seeds, wish: Wish) -> bool {
+    let pairs = (options.count / 10).max(200);
     let Found { differing, trouble, .. } = run(options, wish, pairs);
     if let Some((seed, why)) = &trouble {
         report::report(&options.program, *seed, wish, why);
@@ -146,7 +121,7 @@ fn beyond_claim(options: &Options, wish: Wish) -> bool {
 }
 
 /// With a planted fault this program must come to a situation of the claim in which the order matters.
-fn fault_shows(options: &Options, fault: Fault) -> bool {
+fn fault_shows(options: &Seeds, fault: Fault) -> bool {
     let matters = |seed: &u64| {
         let made = situation(*seed, Wish::TwoInterfaces);
         both::differing_by_fault(from_ref(&made), fault).is_ok_and(|places| !places.is_empty())
@@ -159,7 +134,7 @@ fn fault_shows(options: &Options, fault: Fault) -> bool {
 
 /// The command; 0 if the order never matters where it must not, and all else is as it must be.
 pub fn orders(arguments: &[String]) -> i32 {
-    let options = match read_options(arguments) {
+    let options = match Seeds::read(arguments, "--pairs", JUDGED_PAIRS) {
         Ok(options) => options,
         Err(why) => {
             eprintln!("orders: {why}\nusage: second orders [--program PATH] [--from N] [--pairs N] [--jobs N]");
@@ -177,7 +152,7 @@ pub fn orders(arguments: &[String]) -> i32 {
     let end = if good { "no difference" } else { "FAILED" };
     println!(
         "orders: {} pairs {}, made in both orders through {program}: {end}",
-        options.pairs,
+        options.count,
         Wish::TwoInterfaces.words()
     );
     i32::from(!good)
@@ -186,21 +161,11 @@ pub fn orders(arguments: &[String]) -> i32 {
 #[cfg(test)]
 mod tests {
     use super::*;
-
-    fn read(text: &str) -> Result<Options, String> {
-        read_options(&text.split_whitespace().map(String::from).collect::<Vec<_>>())
-    }
-
-    #[test]
-    fn options_are_read() {
-        assert!(read("").is_ok_and(|options| options.pairs == 20_000 && options.from == 0));
-        assert!(read("--pairs 7 --from 9 --jobs 0").is_ok_and(|options| options.pairs == 7 && options.jobs == 1));
-        assert!(read("--pairs").is_err() && read("--pairs x").is_err() && read("--files 1").is_err());
-    }
+    use std::path::PathBuf;
 
     #[test]
     fn faults_show_and_no_fault_does_not() {
-        let options = Options { program: PathBuf::new(), from: 0, pairs: 0, jobs: 1 };
+        let options = Seeds { program: PathBuf::new(), from: 0, count: 0, jobs: 1 };
         assert!(PLANTED.into_iter().all(|fault| fault_shows(&options, fault)));
         let made: Vec<Situation> = (0..200).map(|seed| situation(seed, Wish::TwoInterfaces)).collect();
         assert!(made.chunks(20).all(|made| both::differing_by_fault(made, faults::NONE) == Ok(Vec::new())));
