@@ -32,7 +32,7 @@ use Rattle.host.proofs.Accepted.{start-checked, tick-checked, receive-c
 
 pub start-in-time : (h : Host) (table : List ℕ) (i k time id : ℕ) (out : List ℕ) → Accepted (start h table i k time id out) → h .clock ≤ time
 start-in-time h table i k time id out a =
-    called-is h table i time out (nameChecks h table i k) (start-checked h table i k time id out a) .in-order
+    called-is h table i time out (nameChecks h table i k time) (start-checked h table i k time id out a) .in-order
 
 pub tick-in-time : (h : Host) (table : List ℕ) (i time id : ℕ) (out : List ℕ) → Accepted (tick h table i time id out) → h .clock ≤ time
 tick-in-time h table i time id out a = called-is h table i time out pass (tick-checked h table i time id out a) .in-order
@@ -88,7 +88,7 @@ module _ (h : Host) (clock time : ℕ) (alike : (time < h .clock) ↔ (time < cl
       by (Defending own qtype class timer) k = same
       by Off k = same
       by Unique k = same
-      by Stopped k = same
+      by (Stopped until) k = same
       by Shared k = same
 
       serves : (d : Due) → SameButClock (serveDue d h table i time out) (serveDue d g table i time out)

@@ -1,16 +1,16 @@
 -- Single tests of the calls hold exactly where their plain conditions do.
-use Prim.Native.Nat.{ℕ, _≤_}
+use Prim.Native.Nat.{ℕ, _<_, _≤_}
 use mathlib.Core.Path.{_≡_, refl, ap, _∙_}
 use mathlib.Core.Logic.{_↔_, _≢_, _⊎_, inl, inr, ⊎-elim}
 use mathlib.Core.Bool.{Bool, true, false, not}
 use native.Mathlib.Omega.{arith}
 use lib.Dec.{eqb}
-use borrow.Author.Tests.{leb-true, le-leb, eqb-true, eqb-false, eq-eqb}
+use borrow.Author.Tests.{ltb-true, ltb-false, lt-ltb, le-ltb, leb-true, le-leb, eqb-true, eqb-false, eq-eqb}
 use Rattle.octets.specs.Tests.{_and_, _or_}
 use Rattle.octets.specs.Addresses.{belowAddress}
 use Rattle.octets.specs.declared.Address.{Address}
 use Rattle.octets.specs.declared.Setting.{Setting}
-use Rattle.octets.proofs.Tests.{split, both, never, same-number, either-number, not-not}
+use Rattle.octets.proofs.Tests.{split, both, never, same-number, either-number, not-not, not-is}
 use Rattle.name_table.specs.declared.Found.{Found}
 use Rattle.name_table.specs.declared.Found.the-variants.{At, Nothing}
 use Rattle.name_table.specs.Check.{Checked, good, bad, isBad, namesIn, isFound, numberOr}
@@ -19,12 +19,12 @@ use Rattle.message.specs.declared.QuestionRead.{QuestionRead}
 use Rattle.message.specs.declared.QuestionRead.the-variants.{Good, Bad}
 use Rattle.message.specs.Question.{questionOr, isBadQuestion}
 use Rattle.host.specs.Bounds.{anyClass}
-use Rattle.host.specs.State.{Phase, off, verifying, unique, stopped, is, intervalOf, IsInterval, short-interval, long-interval}
-use Rattle.host.specs.Start.{isIdle}
+use Rattle.host.specs.State.{Phase, off, verifying, unique, stopped, HasStopped, is, intervalOf, IsInterval, short-interval, long-interval}
+use Rattle.host.specs.Start.{isIdle, isTooSoon}
 use Rattle.host.specs.Tick.{isDue}
 use Rattle.host.specs.Receive.{badClass, awaits}
 use Rattle.host.specs.ExactlyWhen.{WaitsFor, TakenBy}
-use Rattle.host.specs.Served.{DueBy}
+use Rattle.host.specs.Served.{DueBy, MayStart}
 use Rattle.host.specs.declared.NameState.{NameState}
 use Rattle.host.specs.declared.NameState.the-variants.{Off, Verifying, Unique, Defending, Stopped, Shared}
 
@@ -57,23 +57,15 @@ is-off Off e = refl
 is-off (Verifying sends id timer) e = never e refl
 is-off Unique e = never e refl
 is-off (Defending id qtype class timer) e = never e refl
-is-off Stopped e = never e refl
+is-off (Stopped until) e = never e refl
 is-off Shared e = never e refl
-
-pub is-stopped : (s : NameState) → is stopped s ≡ true → s ≡ Stopped
-is-stopped Stopped e = refl
-is-stopped Off e = never e refl
-is-stopped (Verifying sends id timer) e = never e refl
-is-stopped Unique e = never e refl
-is-stopped (Defending id qtype class timer) e = never e refl
-is-stopped Shared e = never e refl
 
 pub is-unique : (s : NameState) → is unique s ≡ true → s ≡ Unique
 is-unique Unique e = refl
 is-unique Off e = never e refl
 is-unique (Verifying sends id timer) e = never e refl
 is-unique (Defending id qtype class timer) e = never e refl
-is-unique Stopped e = never e refl
+is-unique (Stopped until) e = never e refl
 is-unique Shared e = never e refl
 
 -- a state is not of a phase exactly if it is not the phase's one state
@@ -87,11 +79,43 @@ not-in p x t only s = (λ e q. never (ap (is p) q ∙ t) e, λ n. go (is p s) re
 pub not-off : (s : NameState) → (is off s ≡ false) ↔ (s ≢ Off)
 not-off = not-in off Off refl is-off
 
-pub not-stopped : (s : NameState) → (is stopped s ≡ false) ↔ (s ≢ Stopped)
-not-stopped = not-in stopped Stopped refl is-stopped
+-- a name that has stopped
+pub is-stopped : (s : NameState) → (is stopped s ≡ true) ↔ HasStopped s
+is-stopped s = (there s, λ w. ap (is stopped) (w .1))
+  where
+    there : (s : NameState) → is stopped s ≡ true → HasStopped s
+    there (Stopped until) e = (until, refl)
+    there Off e = never e refl
+    there (Verifying sends id timer) e = never e refl
+    there Unique e = never e refl
+    there (Defending id qtype class timer) e = never e refl
+    there Shared e = never e refl
 
-pub idle-is : (s : NameState) → (s ≡ Off) ⊎ (s ≡ Stopped) → isIdle s ≡ true
-idle-is s = ⊎-elim (λ e. rw e) (λ e. rw e)
+pub not-stopped : (s : NameState) → (is stopped s ≡ false) ↔ (HasStopped s → ⊥)
+not-stopped s = not-is _ (is-stopped s)
+
+-- a start that is too soon, and one that is not
+pub soon-is : (s : NameState) (time : ℕ) → (isTooSoon s time ≡ true) ↔ ((until : ℕ) × (s ≡ Stopped until) × (time < until))
+soon-is s time = (there s, λ w. ap (λ (x : NameState). isTooSoon x time) (w .1) ∙ lt-ltb _ _ (w .2))
+  where
+    there : (s : NameState) → isTooSoon s time ≡ true → (until : ℕ) × (s ≡ Stopped until) × (time < until)
+    there (Stopped until) e = (until, refl, ltb-true _ _ e)
+    there Off e = never e refl
+    there (Verifying sends id timer) e = never e refl
+    there Unique e = never e refl
+    there (Defending id qtype class timer) e = never e refl
+    there Shared e = never e refl
+
+pub may-start-is : (s : NameState) (time : ℕ) → ((isIdle s ≡ true) × (isTooSoon s time ≡ false)) ↔ MayStart s time
+may-start-is s time = (λ e. there s (e .0) (e .1), ⊎-elim (λ e. (ap isIdle e, ap (λ (x : NameState). isTooSoon x time) e)) (λ w. (ap isIdle (w .1), ap (λ (x : NameState). isTooSoon x time) (w .1) ∙ le-ltb _ _ (w .2))))
+  where
+    there : (s : NameState) → isIdle s ≡ true → isTooSoon s time ≡ false → MayStart s time
+    there (Stopped until) e n = inr (until, refl, ltb-false _ _ n)
+    there Off e n = inl refl
+    there (Verifying sends id timer) e n = never e refl
+    there Unique e n = never e refl
+    there (Defending id qtype class timer) e n = never e refl
+    there Shared e n = never e refl
 
 -- ---- a name that waits for a response, and one that is taken
 
@@ -109,7 +133,7 @@ waits-is (Verifying sends own timer) id qtype class = three _ _ _ (same-number i
 waits-is (Defending own own-type own-class timer) id qtype class = three _ _ _ (same-number id own) (same-number qtype own-type) (same-number class own-class)
 waits-is Off id qtype class = (λ e. never e refl, λ z. absurd z)
 waits-is Unique id qtype class = (λ e. never e refl, λ z. absurd z)
-waits-is Stopped id qtype class = (λ e. never e refl, λ z. absurd z)
+waits-is (Stopped until) id qtype class = (λ e. never e refl, λ z. absurd z)
 waits-is Shared id qtype class = (λ e. never e refl, λ z. absurd z)
 
 -- of a name that waits
@@ -120,7 +144,7 @@ taken-is (Verifying sends own timer) id qtype class false from ours w = (λ e. i
 taken-is (Defending own own-type own-class timer) id qtype class t from ours w = (λ e. e, λ e. e)
 taken-is Off id qtype class t from ours w = absurd w
 taken-is Unique id qtype class t from ours w = absurd w
-taken-is Stopped id qtype class t from ours w = absurd w
+taken-is (Stopped until) id qtype class t from ours w = absurd w
 taken-is Shared id qtype class t from ours w = absurd w
 
 -- ---- the interval of an interface
@@ -143,5 +167,5 @@ due-is (Verifying sends id timer) time = (leb-true _ _, le-leb _ _)
 due-is (Defending id qtype class timer) time = (leb-true _ _, le-leb _ _)
 due-is Off time = (λ e. never e refl, λ z. absurd z)
 due-is Unique time = (λ e. never e refl, λ z. absurd z)
-due-is Stopped time = (λ e. never e refl, λ z. absurd z)
+due-is (Stopped until) time = (λ e. never e refl, λ z. absurd z)
 due-is Shared time = (λ e. never e refl, λ z. absurd z)

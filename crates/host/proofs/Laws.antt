@@ -79,7 +79,7 @@ tick-does h table i time id out = go (verdict (early h table i time out pass))
     by (Defending own qtype class timer) k = changes _ refl
     by Off k = changes _ refl
     by Unique k = changes _ refl
-    by Stopped k = changes _ refl
+    by (Stopped until) k = changes _ refl
     by Shared k = changes _ refl
 
     serves : (d : Due) → Does h i (servedBy d) time out (serveDue d h table i time out)
@@ -299,7 +299,7 @@ module _ (h g : Host) (i : ℕ) (same : SameHere h g i) where
       by (Defending own qtype class timer) k = record { result = refl; to = refl; octets = refl; after = same-state k Unique time }
       by Off k = record { result = refl; to = refl; octets = refl; after = same-state k Unique time }
       by Unique k = record { result = refl; to = refl; octets = refl; after = same-state k Unique time }
-      by Stopped k = record { result = refl; to = refl; octets = refl; after = same-state k Unique time }
+      by (Stopped until) k = record { result = refl; to = refl; octets = refl; after = same-state k Unique time }
       by Shared k = record { result = refl; to = refl; octets = refl; after = same-state k Unique time }
 
       serves : (d : Due) → SameDone (serveDue d h table i time out) (serveDue d g table i time out) i
@@ -336,7 +336,7 @@ receive-same h g a same =
     by : (d : Decision) → SameDone (effect d h a (question a) (nameNumber a)) (effect d g a (question a) (nameNumber a)) (a .interface)
     by answer = record { result = cc; to = refl; octets = cc; after = same-clock h g (a .interface) same (a .time) }
     by defend = record { result = refl; to = cc; octets = refl; after = same-changed h g (a .interface) same (nameNumber a) _ _ (cc) (a .time) }
-    by stop = record { result = refl; to = refl; octets = refl; after = same-state h g (a .interface) same (nameNumber a) Stopped (a .time) }
+    by stop = record { result = refl; to = refl; octets = refl; after = same-state h g (a .interface) same (nameNumber a) _ (a .time) }
     by keep = record { result = refl; to = refl; octets = refl; after = same-clock h g (a .interface) same (a .time) }
 
     go : (v : Verdict) → SameDone (receiveIf v h a) (receiveIf v g a) (a .interface)
@@ -352,8 +352,8 @@ receive-same h g a same =
 pub set-up-order : (table : List ℕ) (settings : List Setting) (time : ℕ) → numbersOf (setUpChecks table settings time) ≡ 2 ∷ 4 ∷ 20 ∷ []
 set-up-order table settings time = refl
 
--- Start: 1 to 4, 12, 19.
-pub start-order : (h : Host) (table : List ℕ) (i k time : ℕ) (out : List ℕ) → numbersOf (startChecks h table i k time out) ≡ 1 ∷ 2 ∷ 3 ∷ 4 ∷ 12 ∷ 19 ∷ []
+-- Start: 1 to 4, 12, 19, and of document 02 21.
+pub start-order : (h : Host) (table : List ℕ) (i k time : ℕ) (out : List ℕ) → numbersOf (startChecks h table i k time out) ≡ 1 ∷ 2 ∷ 3 ∷ 4 ∷ 12 ∷ 19 ∷ 21 ∷ []
 start-order h table i k time out = refl
 
 -- Tick: 1 to 4.

@@ -17,6 +17,7 @@ use Rattle.host.specs.State.{settingOf, stateOf, off, verifying, stopped
 use Rattle.host.specs.Outcomes.{refusal, silent, kept, stopped as stoppedName}
 use Rattle.host.specs.Receive.{Arrival, header, question, found, nameNumber, state, fromUs, notOurs, badNotification, awaits, unmatched, queryChecks, responseChecks, Decision, answer, defend, keep, loses, decision, effect, answered, defended, receive}
 use Rattle.host.specs.Receive.{stop as stops}
+use Rattle.host.specs.Stopping.{stoppedUntil}
 use Rattle.host.specs.ExactlyWhen.{stateHere, QueryArrives, ResponseArrives, AsksFor, RepliesWhen, DefendsWhen, IsAwaited, IsTaken, StopsWhen, KeepsWhen, NotOursWhen, StoppedWhen, UnmatchedWhen, OwnWhen}
 use Rattle.host.specs.Served.{RefusedFirst}
 use Rattle.host.specs.declared.NameState.{NameState}
@@ -100,9 +101,9 @@ module _ (h : Host) (a : Arrival) where
   -- 13
   pub has-stopped : StoppedWhen h a → receive h a ≡ refusal h (a .out) (number 13)
   has-stopped w =
-      let s = state-is h a (w .names) (w .q) (w .query .arrives) (w .k) (w .name) ∙ w .stopped in
+      let s = state-is h a (w .names) (w .q) (w .query .arrives) (w .k) (w .name) ∙ w .stopped .1 in
       refused-query (w .names) (w .q) (w .query) (number 13)
-      (next (ours-is (w .names) (w .q) (w .query) (w .k) (w .name) (rw (w .stopped))) (stop (rw s)))
+      (next (ours-is (w .names) (w .q) (w .query) (w .k) (w .name) (rw (w .stopped .1))) (stop (rw s)))
 
   -- ---- responses
 
@@ -131,8 +132,10 @@ module _ (h : Host) (a : Arrival) where
           receive-by h a passed (response-gives h a names q w (next (matched m) (next o done)))
           ∙ done-is d q k (question-is h a names q (w .arrives)) (number-is h a names q (w .arrives) k f) e
 
-  -- The name stops; nothing is sent.
-  pub stops-it : (k : ℕ) → StopsWhen h a k → receive h a ≡ silent (withState h (a .interface) k Stopped (a .time)) (a .out) (stoppedName k)
+  -- The name stops, and remembers until when; nothing is sent.
+  pub stops-it : (k : ℕ) (w : StopsWhen h a k)
+      → receive h a
+      ≡ silent (withState h (a .interface) k (Stopped (stoppedUntil (a .time) (header a .answers) (a .datagram) (w .q .end))) (a .time)) (a .out) (stoppedName k)
   stops-it k w =
       let m = w .match in
       let lost = loses-is (w .names) (w .q) (m .response) k (m .name) true (lost-is (w .q) k (m .awaited) .1 (w .taken)) in

@@ -123,7 +123,7 @@ tick-read h table i k time id out len o = go (tick-is h table i time out id)
     by Off j c e = absurd (let z : _≡_ {A = ℕ} 0 1 = cc in omega arith)
     by Unique j c e = absurd (let z : _≡_ {A = ℕ} 0 1 = cc in omega arith)
     by (Defending own t q timer) j c e = absurd (let z : _≡_ {A = ℕ} 0 1 = cc in omega arith)
-    by Stopped j c e = absurd (let z : _≡_ {A = ℕ} 0 1 = cc in omega arith)
+    by (Stopped until) j c e = absurd (let z : _≡_ {A = ℕ} 0 1 = cc in omega arith)
     by Shared j c e = absurd (let z : _≡_ {A = ℕ} 0 1 = cc in omega arith)
 
     go : {d : Done} → Ticks h table i time out d → d .result ≡ query k len → (own : ℕ) × ReadAsCheck (take len (d .octets)) own (nameIn table k .octets)

@@ -23,12 +23,13 @@ use Rattle.host.specs.State.{settingOf, stateOf, withState, timerFrom}
 use Rattle.host.specs.Outcomes.{Done, refusal, silent, ready, shared, query}
 use Rattle.host.specs.Asking.{checkQuery, asking}
 use Rattle.host.specs.SetUp.{isInterval, badSetting, badAmong, setUpChecks, four, freshHost, setUpBy, setUp}
-use Rattle.host.specs.Start.{nameChecks, startChecks, started, startIf, start}
+use Rattle.host.specs.Start.{isIdle, nameChecks, startChecks, started, startIf, start}
 use Rattle.host.specs.ExactlyWhen.{CalledWell}
-use Rattle.host.specs.Served.{SettingIsGood, ReadyWhen, RefusedFirst, NoSuchNameWhen, BusyWhen, StartsWhen}
+use Rattle.host.specs.Served.{SettingIsGood, ReadyWhen, RefusedFirst, NoSuchNameWhen, BusyWhen, TooSoonWhen, StartsWhen}
+use Rattle.host.specs.declared.NameState.{NameState}
 use Rattle.host.specs.declared.NameState.the-variants.{Verifying, Shared}
 use Rattle.host.specs.declared.Host.{Host}
-use Rattle.host.proofs.Conditions.{good-is, not-off, not-stopped, idle-is}
+use Rattle.host.proofs.Conditions.{good-is, not-off, not-stopped, soon-is, may-start-is}
 use Rattle.host.proofs.Called.{called-is, called-gives, first-gives}
 
 -- ---- set-up
@@ -139,12 +140,22 @@ module _ (h : Host) (table : List ℕ) (i k time id : ℕ) (out : List ℕ) wher
       (next (there (w .names) (w .called) (w .in-table))
       (stop (ap not (neither _ _ .1 (not-off (stateOf h i k) .1 (w .not-off), not-stopped (stateOf h i k) .1 (w .not-stopped)))))))
 
+  -- 21
+  pub is-too-soon : TooSoonWhen h table i k time out → start h table i k time id out ≡ refusal h out (number 21)
+  is-too-soon w =
+      let e : not (isIdle (stateOf h i k)) ≡ false = ap (λ (s : NameState). not (isIdle s)) (w .stopped) in
+      start-by (refused (number 21))
+      (called-gives h table i time out (w .names) (w .called)
+      (next (there (w .names) (w .called) (w .in-table))
+      (next e (stop (soon-is (stateOf h i k) time .1 (w .until, w .stopped, w .before))))))
+
   starts : (kind : ℕ) → StartsWhen h table i k time out kind → start h table i k time id out ≡ started h table i k time id out
   starts kind w =
+      let m = may-start-is (stateOf h i k) time .1 (w .may-start) in
       start-by passed
       (called-gives h table i time out (w .names) (w .called)
       (next (there (w .names) (w .called) (w .in-table))
-      (next (ap not (idle-is (stateOf h i k) (w .idle))) done)))
+      (next (ap not (m .0)) (next (m .1) done))))
 
   shared-is : (kind : ℕ) → StartsWhen h table i k time out kind → isSharedKind (kindOf (nameIn table k .kind)) ≡ isSharedKind (kindOf kind)
   shared-is kind w = ap (λ (hs : List Held). isSharedKind (kindOf (getD hs k noName .kind))) (names-are (w .names) (w .called)) ∙ ap (λ (x : ℕ). isSharedKind (kindOf x)) (w .kind-is)
@@ -184,7 +195,7 @@ module _ (h : Host) (table : List ℕ) (i k time id : ℕ) (out : List ℕ) wher
       go passed e r =
           let c = clear (startChecks h table i k time out) e in
           record {
-            called = called-is h table i time out (nameChecks h table i k) c;
+            called = called-is h table i time out (nameChecks h table i k time) c;
             in-table = leb-false _ _ (c .1 .1 .1 .1 .0);
             gives = ap (λ (v : Verdict). startIf v h table i k time id out) e ∙ on _ refl r;
           }

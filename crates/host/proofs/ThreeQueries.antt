@@ -122,7 +122,7 @@ not-yet h i k early late l a j m w = a j m (more (stateOf h i j) w)
     more (Defending id qtype class timer) w = omega arith
     more Off w = w
     more Unique w = w
-    more Stopped w = w
+    more (Stopped until) w = w
     more Shared w = w
 
 module _ (h : Host) (table : List ℕ) (i k : ℕ) (s x y z : Given) (o : Octets table) (served : Served h i k s x y z) (len : ℕ)

@@ -159,7 +159,7 @@ module _ (h : Host) (table : List ℕ) (i time : ℕ) (out : List ℕ) where
     settled (Defending own qtype class timer) k w = refl
     settled Off k w = absurd w
     settled Unique k w = absurd w
-    settled Stopped k w = absurd w
+    settled (Stopped until) k w = absurd w
     settled Shared k w = absurd w
 
     -- A name whose check is over is Unique, and nothing is sent.
@@ -185,7 +185,7 @@ unique-is (Verifying sends id timer) h table i j k time out w e =
 unique-is (Defending id qtype class timer) h table i j k time out w e = (cc, tt)
 unique-is Off h table i j k time out w e = absurd w
 unique-is Unique h table i j k time out w e = absurd w
-unique-is Stopped h table i j k time out w e = absurd w
+unique-is (Stopped until) h table i j k time out w e = absurd w
 unique-is Shared h table i j k time out w e = absurd w
 
 -- A tick makes the k-th name Unique exactly when the conditions of BecomesUniqueWhen hold.

@@ -31,6 +31,14 @@ long = 1000
 abbrev pub sendsInAll : ℕ
 sendsInAll = 3
 
+-- a second in milliseconds
+abbrev pub second : ℕ
+second = 1000
+
+-- how long in milliseconds a lost name is not tried again if no answer of the response that took it can be read
+abbrev pub restWithout : ℕ
+restWithout = 30000
+
 -- the class that asks for any class
 abbrev pub anyClass : ℕ
 anyClass = 255

@@ -19,7 +19,7 @@ use Rattle.message.specs.declared.QuestionRead.the-variants.{Good}
 use Rattle.message.specs.Header.{headerOf}
 use Rattle.message.specs.Question.{questionAt}
 use Rattle.host.specs.Bounds.{anyClass, room as roomOctets, latest as latestTime, shortest as shortestDatagram, longest as longestDatagram}
-use Rattle.host.specs.State.{settingOf, isOwn, stateOf}
+use Rattle.host.specs.State.{settingOf, isOwn, stateOf, HasStopped}
 use Rattle.host.specs.Outcomes.{Done, query, reply}
 use Rattle.host.specs.Receive.{Arrival}
 use Rattle.host.specs.declared.NameState.{NameState}
@@ -103,7 +103,7 @@ pub record RepliesWhen (h : Host) (a : Arrival) : Type 0 where
   pub name : AsksFor a names q k
   pub c-clear : headerOf (a .datagram) .conflict ≡ false
   pub not-off : stateHere h a k ≢ Off
-  pub not-stopped : stateHere h a k ≢ Stopped
+  pub not-stopped : HasStopped (stateHere h a k) → ⊥
 
 -- ---- A defence goes out: a query for the k-th name.
 
@@ -129,7 +129,7 @@ WaitsFor (Verifying sends own timer) id qtype class = (id ≡ own) × (qtype ≡
 WaitsFor (Defending own own-type own-class timer) id qtype class = (id ≡ own) × (qtype ≡ own-type) × (class ≡ own-class)
 WaitsFor Off id qtype class = ⊥
 WaitsFor Unique id qtype class = ⊥
-WaitsFor Stopped id qtype class = ⊥
+WaitsFor (Stopped until) id qtype class = ⊥
 WaitsFor Shared id qtype class = ⊥
 
 abbrev pub IsAwaited : Host → Arrival → Question → ℕ → Type 0
@@ -142,7 +142,7 @@ TakenBy (Verifying sends own timer) t from ours = (t ≡ false) ⊎ (belowAddres
 TakenBy (Defending own own-type own-class timer) t from ours = belowAddress from ours ≡ true
 TakenBy Off t from ours = ⊥
 TakenBy Unique t from ours = ⊥
-TakenBy Stopped t from ours = ⊥
+TakenBy (Stopped until) t from ours = ⊥
 TakenBy Shared t from ours = ⊥
 
 abbrev pub IsTaken : Host → Arrival → ℕ → Type 0
@@ -184,7 +184,7 @@ pub record StoppedWhen (h : Host) (a : Arrival) : Type 0 where
   pub k : ℕ
   pub query : QueryArrives h a names q
   pub name : AsksFor a names q k
-  pub stopped : stateHere h a k ≡ Stopped
+  pub stopped : HasStopped (stateHere h a k)
 
 -- 15: no check waits here for this ID and question.
 pub record UnmatchedWhen (h : Host) (a : Arrival) : Type 0 where

@@ -5,6 +5,7 @@ pub mod Early
 pub mod Asking
 pub mod SetUp
 pub mod Start
+pub mod Stopping
 pub mod Tick
 pub mod Receive
 pub mod Laws

@@ -27,6 +27,7 @@ use Rattle.host.specs.State.{settingOf, stateOf, isOwn, off, verifying, 
 use Rattle.host.specs.Outcomes.{Done, refusal, silent, reply, kept, stopped as stoppedName}
 use Rattle.host.specs.Early.{early}
 use Rattle.host.specs.Asking.{asking}
+use Rattle.host.specs.Stopping.{stoppedUntil}
 use Rattle.host.specs.declared.NameState.{NameState}
 use Rattle.host.specs.declared.NameState.the-variants.{Off, Verifying, Unique, Defending, Stopped, Shared}
 use Rattle.host.specs.declared.Host.{Host}
@@ -105,7 +106,7 @@ awaits (Verifying sends own timer) id qtype class = eqb id own and eqb qtype typ
 awaits (Defending own own-type own-class timer) id qtype class = eqb id own and eqb qtype own-type and eqb class own-class
 awaits Off id qtype class = false
 awaits Unique id qtype class = false
-awaits Stopped id qtype class = false
+awaits (Stopped until) id qtype class = false
 awaits Shared id qtype class = false
 
 abbrev pub unmatched : Host → Arrival → Bool
@@ -191,7 +192,10 @@ defended h a q k =
 abbrev pub effect : Decision → Host → Arrival → Question → ℕ → Done
 effect answer h a q k = answered h a q k
 effect defend h a q k = defended h a q k
-effect stop h a q k = silent (withState h (a .interface) k Stopped (a .time)) (a .out) (stoppedName k)
+effect stop h a q k =
+    silent
+    (withState h (a .interface) k (Stopped (stoppedUntil (a .time) (header a .answers) (a .datagram) (q .end))) (a .time))
+    (a .out) (stoppedName k)
 effect keep h a q k = silent (withClock h (a .time)) (a .out) (kept k)
 
 abbrev pub receiveIf : Verdict → Host → Arrival → Done

@@ -12,7 +12,7 @@ use Rattle.octets.specs.declared.Setting.{Setting}
 use Rattle.refusal.specs.Numbers.{Report, number, number-at}
 use Rattle.name_table.specs.Check.{Held, good, bad, noName, checkTable}
 use Rattle.host.specs.Bounds.{sendsInAll, short, long, room as roomOctets, latest as latestTime}
-use Rattle.host.specs.State.{stateOf}
+use Rattle.host.specs.State.{stateOf, HasStopped}
 use Rattle.host.specs.ExactlyWhen.{IsUsed, CalledWell}
 use Rattle.host.specs.declared.Timer.{Timer}
 use Rattle.host.specs.declared.NameState.{NameState}
@@ -44,7 +44,7 @@ pub data RefusedFirst (h : Host) (table : List ℕ) (i time : ℕ) (out : List �
 
 -- ---- A start of the k-th name.
 
--- 12: there is no such name; 19: it is neither Off nor Stopped.
+-- 12: there is no such name; 19: it is neither Off nor Stopped; 21: it has stopped, and may not be tried again yet.
 pub record NoSuchNameWhen (h : Host) (table : List ℕ) (i k time : ℕ) (out : List ℕ) : Type 0 where
   pub names : List Held
   pub called : CalledWell h table i time out names
@@ -55,14 +55,26 @@ pub record BusyWhen (h : Host) (table : List ℕ) (i k time : ℕ) (out : List �
   pub called : CalledWell h table i time out names
   pub in-table : k < length names
   pub not-off : stateOf h i k ≢ Off
-  pub not-stopped : stateOf h i k ≢ Stopped
+  pub not-stopped : HasStopped (stateOf h i k) → ⊥
+
+pub record TooSoonWhen (h : Host) (table : List ℕ) (i k time : ℕ) (out : List ℕ) : Type 0 where
+  pub names : List Held
+  pub called : CalledWell h table i time out names
+  pub in-table : k < length names
+  pub until : ℕ
+  pub stopped : stateOf h i k ≡ Stopped until
+  pub before : time < until
+
+-- A name in this state may be started at a time: it is Off, or has stopped until then at the latest.
+abbrev pub MayStart : NameState → ℕ → Type 0
+MayStart state time = (state ≡ Off) ⊎ ((until : ℕ) × (state ≡ Stopped until) × (until ≤ time))
 
 -- It is taken: the kind of the name, 1 unique or 2 shared, then decides.
 pub record StartsWhen (h : Host) (table : List ℕ) (i k time : ℕ) (out : List ℕ) (kind : ℕ) : Type 0 where
   pub names : List Held
   pub called : CalledWell h table i time out names
   pub in-table : k < length names
-  pub idle : (stateOf h i k ≡ Off) ⊎ (stateOf h i k ≡ Stopped)
+  pub may-start : MayStart (stateOf h i k) time
   pub kind-is : getD names k noName .kind ≡ kind
 
 -- ---- A tick.
@@ -73,7 +85,7 @@ DueBy (Verifying sends own timer) time = timer .due ≤ time
 DueBy (Defending own own-type own-class timer) time = timer .due ≤ time
 DueBy Off time = ⊥
 DueBy Unique time = ⊥
-DueBy Stopped time = ⊥
+DueBy (Stopped until) time = ⊥
 DueBy Shared time = ⊥
 
 -- It serves the k-th name of the table: that one is due, and none before it.
@@ -90,7 +102,7 @@ HasAsked (Verifying sends own timer) = sendsInAll ≤ sends
 HasAsked (Defending own own-type own-class timer) = Unit
 HasAsked Off = ⊥
 HasAsked Unique = ⊥
-HasAsked Stopped = ⊥
+HasAsked (Stopped until) = ⊥
 HasAsked Shared = ⊥
 
 pub record BecomesUniqueWhen (h : Host) (table : List ℕ) (i time : ℕ) (out : List ℕ) (k : ℕ) : Type 0 where

@@ -1,9 +1,9 @@
--- Start of a name: 1 to 4, 12, 19. A shared name becomes Shared, with nothing sent. A unique name sends a query and becomes Verifying.
+-- Start of a name: 1 to 4, 12, 19, 21. A shared name becomes Shared, with nothing sent. A unique name sends a query and becomes Verifying.
 use Prim.Native.Nat.{ℕ}
 use mathlib.Core.List.{List}
-use mathlib.Core.Bool.{Bool, cond, not}
+use mathlib.Core.Bool.{Bool, false, cond, not}
 use lib.ListN.{length}
-use lib.Dec.{leb}
+use lib.Dec.{ltb, leb}
 use Rattle.octets.specs.Tests.{_or_}
 use Rattle.refusal.specs.Numbers.{number}
 use Rattle.refusal.specs.Checks.{Checks, fail, pass, Verdict, refused, passed, verdict}
@@ -14,22 +14,32 @@ use Rattle.host.specs.Outcomes.{Done, refusal, silent, shared as sharedN
 use Rattle.host.specs.Early.{early}
 use Rattle.host.specs.Asking.{checkQuery, asking}
 use Rattle.host.specs.declared.NameState.{NameState}
-use Rattle.host.specs.declared.NameState.the-variants.{Verifying, Shared}
+use Rattle.host.specs.declared.NameState.the-variants.{Off, Verifying, Unique, Defending, Stopped, Shared}
 use Rattle.host.specs.declared.Host.{Host}
 
--- a name may be started if it is Off or Stopped
+-- a name is idle if it is Off or Stopped
 abbrev pub isIdle : NameState → Bool
 isIdle state = is off state or is stopped state
 
--- 12: no name has this number; 19: the name may not be started
-abbrev pub nameChecks : Host → List ℕ → ℕ → ℕ → Checks
-nameChecks h table i k =
+-- a stopped name is started before the time that it remembers
+abbrev pub isTooSoon : NameState → ℕ → Bool
+isTooSoon (Stopped until) time = ltb time until
+isTooSoon Off time = false
+isTooSoon (Verifying sends id timer) time = false
+isTooSoon Unique time = false
+isTooSoon (Defending id qtype qclass timer) time = false
+isTooSoon Shared time = false
+
+-- 12: no name has this number; 19: the name is started already; 21: it has stopped, and it is too soon to try it again
+abbrev pub nameChecks : Host → List ℕ → ℕ → ℕ → ℕ → Checks
+nameChecks h table i k time =
     fail (leb (length (namesIn (checkTable table))) k) (number 12)
     (fail (not (isIdle (stateOf h i k))) (number 19)
-    pass)
+    (fail (isTooSoon (stateOf h i k) time) (number 21)
+    pass))
 
 abbrev pub startChecks : Host → List ℕ → ℕ → ℕ → ℕ → List ℕ → Checks
-startChecks h table i k time out = early h table i time out (nameChecks h table i k)
+startChecks h table i k time out = early h table i time out (nameChecks h table i k time)
 
 -- the table's kind of a name decides at a start, and only there
 abbrev pub started : Host → List ℕ → ℕ → ℕ → ℕ → ℕ → List ℕ → Done

@@ -55,8 +55,12 @@ phaseOf Off = off
 phaseOf (Verifying sends id timer) = verifying
 phaseOf Unique = unique
 phaseOf (Defending id qtype qclass timer) = defending
-phaseOf Stopped = stopped
+phaseOf (Stopped until) = stopped
 phaseOf Shared = shared
+
+-- plainly: a name has stopped, whenever it may be tried again
+abbrev pub HasStopped : NameState → Type 0
+HasStopped state = (until : ℕ) × (state ≡ Stopped until)
 
 abbrev pub rank : Phase → ℕ
 rank off = 0

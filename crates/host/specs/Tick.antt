@@ -22,7 +22,7 @@ isDue Off time = false
 isDue (Verifying sends id timer) time = leb (timer .due) time
 isDue Unique time = false
 isDue (Defending id qtype qclass timer) time = leb (timer .due) time
-isDue Stopped time = false
+isDue (Stopped until) time = false
 isDue Shared time = false
 
 pub data Due : Type 0 where
@@ -49,7 +49,7 @@ serve (Verifying sends id timer) h table i k time out =
 serve (Defending id qtype qclass timer) h table i k time out = nowUnique h i k time out
 serve Off h table i k time out = nowUnique h i k time out
 serve Unique h table i k time out = nowUnique h i k time out
-serve Stopped h table i k time out = nowUnique h i k time out
+serve (Stopped until) h table i k time out = nowUnique h i k time out
 serve Shared h table i k time out = nowUnique h i k time out
 
 abbrev pub serveDue : Due → Host → List ℕ → ℕ → ℕ → List ℕ → Done

@@ -22,6 +22,11 @@ impl Timer {
 
     pub const SENDS: u8 = 3;
 
+    // A second; and how long a lost name is not tried again if no answer of the response that took it can be read.
+    pub const SECOND: u64 = 1000;
+
+    pub const REST: u64 = 30000;
+
     // The interval of a setting: any but the short one counts as the long one.
     pub fn interval(setting: Setting) -> u64
         ensures { λ r. ⌜ r ≡ intervalOf setting ⌝ }
@@ -35,7 +40,7 @@ impl Timer {
 }
 
 // The state of a name on an interface. Off is the zero value. Document 01's checking is Verifying; to hold a name is Unique or
-// Defending.
+// Defending. A stopped name is not tried again until a time.
 pub enum NameState {
     Off,
     Verifying {
@@ -50,7 +55,9 @@ pub enum NameState {
         qclass: u16,
         timer: Timer,
     },
-    Stopped,
+    Stopped {
+        until: u64,
+    },
     Shared,
 }
 

@@ -21,6 +21,10 @@ typeANY = 255
 abbrev pub replyTTL : ℕ
 replyTTL = 30
 
+-- from here on a TTL has its top bit set: 2^31
+abbrev pub topBit : ℕ
+topBit = 2147483648
+
 -- octets of the pointer that is the owner of every record that we write
 abbrev pub ownerOctets : ℕ
 ownerOctets = 2

@@ -132,6 +132,9 @@ impl ResourceRecord {
     pub const TTL: u16 = 30;
 
     pub const ANY: u16 = 255;
+
+    // From here on a TTL has its top bit set.
+    pub const TOP_BIT: u32 = 2147483648;
 }
 
 pub enum RecordRead {

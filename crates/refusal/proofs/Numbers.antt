@@ -3,14 +3,14 @@ use mathlib.Core.Path.{_≡_, refl, sym, ap, _∙_}
 use mathlib.Core.List.{List, [], _∷_}
 use lib.ListN.{getD}
 use Rattle.refusal.specs.declared.Refusal.{Refusal}
-use Rattle.refusal.specs.declared.Refusal.the-variants.{Room, Table, Interface, Clock, Length, Address, Opcode, Rcode, Counts, Question, Class, NotOurs, Stopped, Notification, Unmatched, Own, Tentative, Records, Busy, Settings, SeveralLabels}
+use Rattle.refusal.specs.declared.Refusal.the-variants.{Room, Table, Interface, Clock, Length, Address, Opcode, Rcode, Counts, Question, Class, NotOurs, Stopped, Notification, Unmatched, Own, Tentative, Records, Busy, Settings, TooSoon, SeveralLabels}
 use Rattle.refusal.specs.Numbers.{Report, number, number-at, reportOf}
 
--- the refusals by their numbers; number 2 tells an offset too, and 0 and 21 are none
+-- the refusals by their numbers; number 2 tells an offset too, and 0 is none
 abbrev pub by-number : List Refusal
 by-number =
     Room ∷ Room ∷ Table 0 ∷ Interface ∷ Clock ∷ Length ∷ Address ∷ Opcode ∷ Rcode ∷ Counts ∷ Question ∷ Class ∷ NotOurs
-    ∷ Stopped ∷ Notification ∷ Unmatched ∷ Own ∷ Tentative ∷ Records ∷ Busy ∷ Settings ∷ Room ∷ SeveralLabels ∷ []
+    ∷ Stopped ∷ Notification ∷ Unmatched ∷ Own ∷ Tentative ∷ Records ∷ Busy ∷ Settings ∷ TooSoon ∷ SeveralLabels ∷ []
 
 abbrev pub refusalOf : Report → Refusal
 refusalOf (number n) = getD by-number n Room
@@ -37,6 +37,7 @@ refusal-back Tentative = refl
 refusal-back Records = refl
 refusal-back Busy = refl
 refusal-back Settings = refl
+refusal-back TooSoon = refl
 refusal-back SeveralLabels = refl
 
 pub report-one : (a b : Refusal) → reportOf a ≡ reportOf b → a ≡ b

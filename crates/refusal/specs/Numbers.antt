@@ -1,7 +1,7 @@
 -- Document 01's table "Refusal numbers", with those of document 02: what a refusal tells the caller.
 use Prim.Native.Nat.{ℕ}
 use Rattle.refusal.specs.declared.Refusal.{Refusal}
-use Rattle.refusal.specs.declared.Refusal.the-variants.{Room, Table, Interface, Clock, Length, Address, Opcode, Rcode, Counts, Question, Class, NotOurs, Stopped, Notification, Unmatched, Own, Tentative, Records, Busy, Settings, SeveralLabels}
+use Rattle.refusal.specs.declared.Refusal.the-variants.{Room, Table, Interface, Clock, Length, Address, Opcode, Rcode, Counts, Question, Class, NotOurs, Stopped, Notification, Unmatched, Own, Tentative, Records, Busy, Settings, TooSoon, SeveralLabels}
 
 -- a number; number 2 comes with the offset of the first bad entry of the table
 pub data Report : Type 0 where
@@ -30,6 +30,7 @@ reportOf Tentative = number 17
 reportOf Records = number 18
 reportOf Busy = number 19
 reportOf Settings = number 20
+reportOf TooSoon = number 21
 reportOf SeveralLabels = number 22
 
 abbrev pub numberIn : Report → ℕ

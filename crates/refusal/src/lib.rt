@@ -2,7 +2,7 @@
 ghost use mathlib.Core.Path.{_≡_};
 ghost use Rattle.refusal.specs.Numbers.{numberOf};
 
-// Why a call was refused, in the order of document 01's table; document 02 adds the last.
+// Why a call was refused, in the order of document 01's table; document 02 adds the last two.
 pub enum Refusal {
     Room,
     Table { at: usize },
@@ -24,6 +24,7 @@ pub enum Refusal {
     Records,
     Busy,
     Settings,
+    TooSoon,
     SeveralLabels,
 }
 
@@ -53,6 +54,7 @@ impl Refusal {
             Refusal::Records => 18,
             Refusal::Busy => 19,
             Refusal::Settings => 20,
+            Refusal::TooSoon => 21,
             Refusal::SeveralLabels => 22,
         }
     }
