@@ -70,7 +70,7 @@ judged-so false true Unique waits false = refl
 judged-so false false Unique waits own = refl
 judged-so false true (Defending id qtype qclass timer) waits own = refl
 judged-so false false (Defending id qtype qclass timer) waits own = refl
-judged-so false conflict Stopped waits own = refl
+judged-so false conflict (Stopped until) waits own = refl
 judged-so false true Shared waits own = refl
 judged-so false false Shared waits own = refl
 
@@ -91,7 +91,7 @@ no-answer own (Verifying sends id timer) e = let z : _≡_ {A = ℕ} 0 1 = cc in
 no-answer true Unique e = let z : _≡_ {A = ℕ} 0 1 = cc in absurd (omega arith)
 no-answer false Unique e = let z : _≡_ {A = ℕ} 0 1 = cc in absurd (omega arith)
 no-answer own (Defending id qtype qclass timer) e = let z : _≡_ {A = ℕ} 0 1 = cc in absurd (omega arith)
-no-answer own Stopped e = let z : _≡_ {A = ℕ} 0 1 = cc in absurd (omega arith)
+no-answer own (Stopped until) e = let z : _≡_ {A = ℕ} 0 1 = cc in absurd (omega arith)
 no-answer own Shared e = let z : _≡_ {A = ℕ} 0 1 = cc in absurd (omega arith)
 
 no-contest : {A : Type 0} (own : Bool) (state : NameState) → judgedBy false false state false own ≡ Contest → A
@@ -99,7 +99,7 @@ no-contest own Off e = let z : _≡_ {A = ℕ} 0 1 = cc in absurd (omega arith)
 no-contest own (Verifying sends id timer) e = let z : _≡_ {A = ℕ} 0 1 = cc in absurd (omega arith)
 no-contest own Unique e = let z : _≡_ {A = ℕ} 0 1 = cc in absurd (omega arith)
 no-contest own (Defending id qtype qclass timer) e = let z : _≡_ {A = ℕ} 0 1 = cc in absurd (omega arith)
-no-contest own Stopped e = let z : _≡_ {A = ℕ} 0 1 = cc in absurd (omega arith)
+no-contest own (Stopped until) e = let z : _≡_ {A = ℕ} 0 1 = cc in absurd (omega arith)
 no-contest own Shared e = let z : _≡_ {A = ℕ} 0 1 = cc in absurd (omega arith)
 
 pub answers-so : (response conflict : Bool) (state : NameState) (waits own lost : Bool) → judgedBy response conflict state waits own ≡ Answer

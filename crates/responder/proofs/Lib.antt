@@ -5,6 +5,7 @@ pub mod OpeningLaws
 pub mod ContestLaws
 pub mod TurnLaws
 pub mod ServedLaws
+pub mod StoppingLaws
 pub mod StartLaws
 pub mod TickLaws
 pub mod HeardLaws

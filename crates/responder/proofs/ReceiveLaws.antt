@@ -24,6 +24,7 @@ use Rattle.host.specs.Bounds.{replyLimit}
 use Rattle.host.specs.State.{settingOf, stateOf, verifying, shared, is, withClock, withState, timerFrom}
 use Rattle.host.specs.Outcomes.{Done, resultOf, refusal}
 use Rattle.host.specs.Receive.{Arrival, header, question, found, state, fromUs, loses, awaits, Decision, replied, effect, receiveIf, receive}
+use Rattle.host.specs.Stopping.{stoppedUntil}
 use Rattle.host.specs.ExactlyWhen.{CalledWell}
 use Rattle.host.specs.declared.Name.{Name}
 use Rattle.host.specs.declared.NameState.{NameState}
@@ -39,10 +40,12 @@ use Rattle.responder.specs.declared.contest.Ending.{Ending}
 use Rattle.responder.specs.declared.contest.Ending.the-variants.{Defended, Lost, Kept}
 use Rattle.responder.specs.Contest.{whyUnknown, stateJudged, judged, ending, nextName, Telling, told, toldBy}
 use Rattle.responder.specs.declared.contest.Told.{Told}
+use Rattle.responder.specs.Stopping.{untilBy}
 use Rattle.responder.specs.Served.{changes, nameTold, Serves}
 use Rattle.responder.specs.declared.heard.Heard.{Heard}
 use Rattle.responder.specs.Heard.{Hearing, refuses, hears, namedBy, heardIf, hearing, heardBy}
 use Rattle.responder.proofs.HeardLaws.{checksRead, checksHeard}
+use Rattle.responder.proofs.StoppingLaws.{until-is}
 use Rattle.responder.proofs.ContestLaws.{lastChecks, verdictOf, not-found, judged-so, decisionOf, answers-so, ends-so}
 
 -- A contest that gives a name a new state tells that name.
@@ -181,18 +184,22 @@ module _ (h : Host) (a : Arrival) where
           ∙ by-last (w .passes-all) passed (verdict-is Answer u)
 
       -- how a contest ends, of the interface's family
-      abbrev pub endedBy : ℕ → Question → Timer → Ending → Done
-      endedBy family y m z =
+      abbrev pub endedBy : ℕ → Question → Timer → ℕ → Ending → Done
+      endedBy family y m u z =
           let t = told z k family (a .id) (partOf (a .datagram) headerOctets (y .end)) (a .out) in
           record {
-            host = cond (changes (t .result)) (withState h (a .interface) (nameTold (t .result)) (nextName z (a .id) y m .state) (a .time)) (withClock h (a .time));
+            host = cond (changes (t .result)) (withState h (a .interface) (nameTold (t .result)) (nextName z (a .id) y m u .state) (a .time)) (withClock h (a .time));
             result = t .result;
             to = t .to;
             octets = t .octets;
           }
 
+      -- until when it is not tried again, by what was read
+      abbrev untilOf : Header → Question → ℕ
+      untilOf y z = stoppedUntil (a .time) (y .answers) (a .datagram) (z .end)
+
       effect-is : (y : Question) (z : Ending)
-          → endedBy (settingOf h (a .interface) .family) y (timerFrom (settingOf h (a .interface)) (a .time)) z ≡ effect (decisionOf z) h a y k
+          → endedBy (settingOf h (a .interface) .family) y (timerFrom (settingOf h (a .interface)) (a .time)) (untilOf (header a) y) z ≡ effect (decisionOf z) h a y k
       effect-is y Defended = refl
       effect-is y Lost = refl
       effect-is y Kept = refl
@@ -205,12 +212,13 @@ module _ (h : Host) (a : Arrival) where
           ∙ ap (λ (y : NameState). ending y (header a) (a .from .address) (settingOf h (a .interface))) (sym (state-is ∙ s-is))
 
       pub settles : j ≡ Contest → (z : Ending) → z ≡ ending s x (a .from .address) (settingOf h (slotOf (a .interface)))
-          → endedBy (settingOf h (slotOf (a .interface)) .family) q timer z ≡ receive h a
+          → endedBy (settingOf h (slotOf (a .interface)) .family) q timer (untilOf x q) z ≡ receive h a
       unfolding judged stateJudged ending
       settles u z g =
-          ap (λ (y : ℕ). endedBy (settingOf h y .family) q timer z) same
-          ∙ ap (λ (y : Question). endedBy (settingOf h (a .interface) .family) y timer z) (w .question-is)
-          ∙ ap (λ (m : Timer). endedBy (settingOf h (a .interface) .family) (question a) m z) (w .timer-is)
+          ap (λ (y : ℕ). endedBy (settingOf h y .family) q timer (untilOf x q) z) same
+          ∙ ap (λ (y : Header). endedBy (settingOf h (a .interface) .family) q timer (untilOf y q) z) (w .header-is)
+          ∙ ap (λ (y : Question). endedBy (settingOf h (a .interface) .family) y timer (untilOf (header a) y) z) (w .question-is)
+          ∙ ap (λ (m : Timer). endedBy (settingOf h (a .interface) .family) (question a) m (untilOf (header a) (question a)) z) (w .timer-is)
           ∙ effect-is (question a) z
           ∙ ap (λ (y : ℕ). effect (decisionOf z) h a (question a) y) (sym number-is)
           ∙ ap (λ (y : Ending). effect (decisionOf y) h a (question a) (numberOr (found a))) (ending-is z g)
@@ -219,13 +227,13 @@ module _ (h : Host) (a : Arrival) where
           ∙ by-last (w .passes-all) passed (verdict-is Contest u)
 
       -- what the code tells of it
-      pub settled-on : j ≡ Contest → (z : Ending) → z ≡ ending s x (a .from .address) (settingOf h (slotOf (a .interface))) → (n : Name) → n ≡ nextName z (a .id) q timer
+      pub settled-on : j ≡ Contest → (z : Ending) → z ≡ ending s x (a .from .address) (settingOf h (slotOf (a .interface))) → (n : Name) → n ≡ nextName z (a .id) q timer (untilBy (a .time) (x .answers) (a .datagram) (q .end))
           → (t : Told) (out : List ℕ) → toldBy t out ≡ told z k (settingOf h (slotOf (a .interface)) .family) (a .id) (partOf (a .datagram) headerOctets (q .end)) (a .out)
           → Serves (record { name = n; clock = a .time; outcome = t .outcome; to = t .to }) out h (a .interface) (receive h a)
       settled-on u z g n e t out y =
           let r : resultOf (t .outcome) ≡ told z k (settingOf h (slotOf (a .interface)) .family) (a .id) (partOf (a .datagram) headerOctets (q .end)) (a .out) .result
           = ap (λ (v : Telling). v .result) y in
           record {
-            gives = rw (e, r, ap (λ (v : Telling). v .to) y, ap (λ (v : Telling). v .octets) y) (settles u z g);
+            gives = rw (e, until-is (a .time) (x .answers) (a .datagram) (q .end) (well (w .passes-all) .latest), r, ap (λ (v : Telling). v .to) y, ap (λ (v : Telling). v .octets) y) (settles u z g);
             within = λ c. (interface-there, rw (r, told-name z k _ _ _ _ (sym (ap changes r) ∙ c)) name-there);
           }

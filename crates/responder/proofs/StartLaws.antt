@@ -9,7 +9,7 @@ use lib.Dec.{leb}
 use borrow.Author.Tests.{lt-leb, le-leb}
 use Rattle.octets.proofs.Tests.{split}
 use Rattle.refusal.specs.Numbers.{Report, reportOf}
-use Rattle.refusal.specs.declared.Refusal.the-variants.{NotOurs, Busy}
+use Rattle.refusal.specs.declared.Refusal.the-variants.{NotOurs, Busy, TooSoon}
 use Rattle.refusal.specs.Checks.{Verdict, refused, verdict, Gives, stop, next, done}
 use Rattle.refusal.proofs.Checks.{gives}
 use Rattle.name_table.specs.Bounds.{mostNames}
@@ -21,7 +21,7 @@ use Rattle.name_table.specs.declared.Table.{Table}
 use Rattle.host.specs.State.{settingOf, stateOf}
 use Rattle.host.specs.Outcomes.{refusal, shared}
 use Rattle.host.specs.Early.{early}
-use Rattle.host.specs.Start.{isIdle, nameChecks, startChecks, started, startIf, start}
+use Rattle.host.specs.Start.{isIdle, isTooSoon, nameChecks, startChecks, started, startIf, start}
 use Rattle.host.specs.declared.Host.{Host}
 use Rattle.host.proofs.Called.{called-gives}
 use Rattle.responder.specs.declared.turn.Turn.{Turn}
@@ -34,11 +34,11 @@ module _ (h : Host) (table : List ℕ) (i k time id : ℕ) (out : List ℕ) wher
   unfolding start
   by v e = ap (λ (w : Verdict). startIf w h table i k time id out) (sym e)
 
-  pub refused-first : (t : Report) → verdict (early h table i time out (nameChecks h table i k)) ≡ refused t → refusal h out t ≡ start h table i k time id out
+  pub refused-first : (t : Report) → verdict (early h table i time out (nameChecks h table i k time)) ≡ refused t → refusal h out t ≡ start h table i k time id out
   refused-first t e = by (refused t) e
 
   module _ (t : Table) (at : ℕ) (p : Called h table i time out t at) (n : ℕ) (e : n ≡ min (t .names) mostNames) where
-    by-own : (v : Verdict) → Gives (nameChecks h table i k) v → startIf v h table i k time id out ≡ start h table i k time id out
+    by-own : (v : Verdict) → Gives (nameChecks h table i k time) v → startIf v h table i k time id out ≡ start h table i k time id out
     by-own v g = by v (sym (gives (called-gives h table i time out (namesOf table t) (p .well) g)))
 
     past : leb (length (namesIn (checkTable table))) k ≡ leb n k
@@ -54,6 +54,16 @@ module _ (h : Host) (table : List ℕ) (i k time id : ℕ) (out : List ℕ) wher
       pub busy : not (isIdle (stateOf h at k)) ≡ true → refusal h out (reportOf Busy) ≡ start h table i k time id out
       busy b = by-own _ (next there (stop (ap (λ (x : ℕ). not (isIdle (stateOf h x k))) (sym (p .same)) ∙ b)))
 
+      module _ (b : not (isIdle (stateOf h at k)) ≡ false) where
+        idle : not (isIdle (stateOf h i k)) ≡ false
+        idle = ap (λ (x : ℕ). not (isIdle (stateOf h x k))) (sym (p .same)) ∙ b
+
+        soon-is : isTooSoon (stateOf h i k) time ≡ isTooSoon (stateOf h at k) time
+        soon-is = ap (λ (x : ℕ). isTooSoon (stateOf h x k) time) (sym (p .same))
+
+        pub too-soon : isTooSoon (stateOf h at k) time ≡ true → refusal h out (reportOf TooSoon) ≡ start h table i k time id out
+        too-soon s = by-own _ (next there (next idle (stop (soon-is ∙ s))))
+
       kind-is : kindOf (nameIn table k .kind) ≡ kindOf (getD (t .kinds) k 0)
       kind-is =
           let f : k < length (namesOf table t) = omega (arith, counted table t) in
@@ -64,10 +74,10 @@ module _ (h : Host) (table : List ℕ) (i k time id : ℕ) (out : List ℕ) wher
       unfolding turned
       begins = split (isSharedKind (kindOf (nameIn table k .kind))) (λ q. rw q) (λ q. rw q)
 
-      pub accepted : not (isIdle (stateOf h at k)) ≡ false → (kind : Kind) → kind ≡ kindOf (getD (t .kinds) k 0)
+      pub accepted : not (isIdle (stateOf h at k)) ≡ false → isTooSoon (stateOf h at k) time ≡ false → (kind : Kind) → kind ≡ kindOf (getD (t .kinds) k 0)
           → (a : Turn) → a ≡ first kind id (settingOf h at) time → turned a (shared k) h table at k time out ≡ start h table i k time id out
-      accepted b kind w a q =
+      accepted b s kind w a q =
           ap (λ (x : Turn). turned x (shared k) h table at k time out) (q ∙ ap (λ (x : Kind). first x id (settingOf h at) time) (w ∙ sym kind-is))
           ∙ begins
           ∙ ap (λ (x : ℕ). started h table x k time id out) (p .same)
-          ∙ by-own _ (next there (next (ap (λ (x : ℕ). not (isIdle (stateOf h x k))) (sym (p .same)) ∙ b) done))
+          ∙ by-own _ (next there (next (idle b) (next (soon-is b ∙ s) done)))

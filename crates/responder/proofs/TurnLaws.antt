@@ -85,7 +85,7 @@ serves (Verifying sends id timer) h table i k time out = split (ltb sends sendsI
 serves (Defending id qtype qclass timer) h table i k time out = refl
 serves Off h table i k time out = refl
 serves Unique h table i k time out = refl
-serves Stopped h table i k time out = refl
+serves (Stopped until) h table i k time out = refl
 serves Shared h table i k time out = refl
 
 module _ (a : Turn) (r : Result) (h : Host) (table : List ℕ) (i k time : ℕ) (out : List ℕ) where

@@ -41,7 +41,7 @@ queryJudged Off conflict = Refused refusal.NotOurs
 queryJudged (Verifying sends id timer) conflict = cond conflict (Refused refusal.Notification) Answer
 queryJudged Unique conflict = cond conflict Contest Answer
 queryJudged (Defending id qtype qclass timer) conflict = cond conflict (Refused refusal.Notification) Answer
-queryJudged Stopped conflict = Refused refusal.Stopped
+queryJudged (Stopped until) conflict = Refused refusal.Stopped
 queryJudged Shared conflict = cond conflict (Refused refusal.Notification) Answer
 
 unfoldable pub stateJudged : NameState → Header → Question → Judged
@@ -65,11 +65,11 @@ isLost state tentative source own = is verifying state and not tentative or belo
 unfoldable pub ending : NameState → Header → Address → Setting → Ending
 ending state x source own = cond (x .response) (cond (isLost state (x .tentative) source own) Lost Kept) Defended
 
--- the name's new state, with a timer that is started now; Off where it has none
-abbrev pub nextName : Ending → ℕ → Question → Timer → Name
-nextName Defended id q timer = record { state = Defending id (q .qtype) (q .class) timer }
-nextName Lost id q timer = record { state = Stopped }
-nextName Kept id q timer = offName
+-- the name's new state, with a timer that is started now and a time until which it is not tried again; Off where it has none
+abbrev pub nextName : Ending → ℕ → Question → Timer → ℕ → Name
+nextName Defended id q timer until = record { state = Defending id (q .qtype) (q .class) timer }
+nextName Lost id q timer until = record { state = Stopped until }
+nextName Kept id q timer until = offName
 
 -- what is told, where it goes, and every octet of the buffer
 pub record Telling : Type 0 where

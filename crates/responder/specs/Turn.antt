@@ -34,7 +34,7 @@ again (Verifying sends id timer) s time = cond (ltb sends sendsInAll) (ask (send
 again (Defending id qtype qclass timer) s time = rest Unique
 again Off s time = rest Unique
 again Unique s time = rest Unique
-again Stopped s time = rest Unique
+again (Stopped until) s time = rest Unique
 again Shared s time = rest Unique
 
 -- what a call gives that makes this of the k-th name; at rest it says so

@@ -7,6 +7,8 @@ ghost use Rattle.octets.specs.Addresses.{isOurs};
 ghost use Rattle.host.specs.State.{shared, verifying, is};
 ghost use Rattle.host.specs.Receive.{awaits};
 ghost use Rattle.responder.specs.Contest.{whyUnknown, whyOwn, queryJudged, stateJudged, judged, isLost, ending, nextName, told, toldBy};
+ghost use Rattle.responder.specs.Stopping.{untilBy};
+use crate::stopping;
 use host::Name;
 use host::NameState;
 use host::Outcome;
@@ -107,7 +109,7 @@ fn judge_query(state: NameState, conflict: bool) -> Judged
 {
     match state {
         NameState::Off => Judged::Refused(Refusal::NotOurs),
-        NameState::Stopped => Judged::Refused(Refusal::Stopped),
+        NameState::Stopped { until: _ } => Judged::Refused(Refusal::Stopped),
         NameState::Unique => {
             if conflict {
                 Judged::Contest
@@ -204,9 +206,17 @@ pub(crate) fn settle(name: Name, header: Header, source: Address, setting: Setti
     Ending::Defended
 }
 
-// The name's new state: Defending with its timer, or Stopped; Off where it has none.
-pub(crate) fn next(ended: Ending, id: u16, question: Question, timer: Timer) -> Name
-    ensures { λ r. ⌜ r ≡ nextName ended id question timer ⌝ }
+// The name's new state: Defending with its timer, or Stopped until the response lets it be tried again; Off where it has none.
+pub(crate) fn next(
+    ended: Ending,
+    id: u16,
+    header: Header,
+    question: Question,
+    timer: Timer,
+    datagram: &[u8],
+    time: u64,
+) -> Name
+    ensures { λ r. ⌜ r ≡ nextName ended id question timer (untilBy time (header .answers) (now (datagram .entry)) (question .end)) ⌝ }
 {
     match ended {
         Ending::Defended => Name {
@@ -217,9 +227,12 @@ pub(crate) fn next(ended: Ending, id: u16, question: Question, timer: Timer) -> 
                 timer: timer,
             },
         },
-        Ending::Lost => Name {
-            state: NameState::Stopped,
-        },
+        Ending::Lost => {
+            let until = stopping::until(time, header.answers, datagram, question.end);
+            Name {
+                state: NameState::Stopped { until },
+            }
+        }
         Ending::Kept => Name {
             state: NameState::Off,
         },

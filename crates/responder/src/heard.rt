@@ -165,6 +165,6 @@ pub fn answer(
     let ended = contest::settle(name, h, source, setting);
     let told = contest::tell(ended, heard.name, setting.family, id, asked, out);
     let timer = heard.timer;
-    let next = contest::next(ended, id, q, timer);
+    let next = contest::next(ended, id, h, q, timer, datagram, time);
     served::told(next, time, told)
 }

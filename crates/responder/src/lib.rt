@@ -22,6 +22,7 @@ mod query;
 mod reply;
 pub mod served;
 mod settings;
+mod stopping;
 mod turn;
 
 use host::Host;

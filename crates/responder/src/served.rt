@@ -146,6 +146,9 @@ pub fn start(
     if !turn::is_idle(state) {
         return rest(clock, Outcome::Refused(Refusal::Busy));
     }
+    if turn::is_too_soon(state, time) {
+        return rest(clock, Outcome::Refused(Refusal::TooSoon));
+    }
     let a = turn::first(name_table::kind_of(t.kinds[k]), id, setting, time);
     let settled = Outcome::Shared { name: k };
     serve(a, settled, k, setting.family, t, table, time, out)

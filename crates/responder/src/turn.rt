@@ -7,7 +7,7 @@ ghost use Rattle.name_table.specs.Bounds.{mostNames};
 ghost use Rattle.name_table.specs.Kinds.{isSharedKind};
 ghost use Rattle.host.specs.Bounds.{latest};
 ghost use Rattle.host.specs.State.{timerFrom};
-ghost use Rattle.host.specs.Start.{isIdle};
+ghost use Rattle.host.specs.Start.{isIdle, isTooSoon};
 ghost use Rattle.host.specs.Tick.{isDue, due, none, dueFrom};
 ghost use Rattle.responder.specs.Turn.{rest, ask, first as firstTurn, again as nextTurn};
 use host::Name;
@@ -103,13 +103,23 @@ pub(crate) fn again(state: NameState, setting: Setting, time: u64) -> Turn
     rests(NameState::Unique)
 }
 
-// Whether a name may be started.
+// Whether a name is Off or Stopped.
 pub(crate) fn is_idle(state: NameState) -> bool
     ensures { λ r. ⌜ r ≡ isIdle state ⌝ }
 {
     match state {
         NameState::Off => true,
-        NameState::Stopped => true,
+        NameState::Stopped { until: _ } => true,
+        _ => false,
+    }
+}
+
+// Whether a stopped name is started before the time that it remembers.
+pub(crate) fn is_too_soon(state: NameState, time: u64) -> bool
+    ensures { λ r. ⌜ r ≡ isTooSoon state time ⌝ }
+{
+    match state {
+        NameState::Stopped { until } => time < until,
         _ => false,
     }
 }

@@ -118,14 +118,15 @@ idOf Off = 0
 idOf (Verifying n id timer) = id
 idOf IsUnique = 0
 idOf (Defending id qtype qclass timer) = 0
-idOf HasStopped = 0
+idOf (HasStopped until) = 0
 idOf NameState.Shared = 0
 
-abbrev pub stateOf : Claim → ℕ → NameState
-stateOf off id = Off
-stateOf (verifying m d) id = verifyingWith m id d
-stateOf unique id = IsUnique
-stateOf stopped id = HasStopped
+-- the state of a claim: with this ID if it is verifying, and until then if it has stopped
+abbrev pub stateOf : Claim → ℕ → ℕ → NameState
+stateOf off id until = Off
+stateOf (verifying m d) id until = verifyingWith m id d
+stateOf unique id until = IsUnique
+stateOf stopped id until = HasStopped until
 
 -- what a probe observes
 abbrev pub observation : Kind → Observed
@@ -186,9 +187,10 @@ module _ (L : Link) where
   pub record StandsFor (k t : ℕ) (s : Claim) (c : Host) : Type 0 where
     pub id : ℕ
     pub id-fits : id < 65536
+    pub until : ℕ
     pub clock : ℕ
     pub early : clock ≤ t
-    pub is : c ≡ hostWith (L .station k) (stateOf s id) clock
+    pub is : c ≡ hostWith (L .station k) (stateOf s id until) clock
 
   pub tag : ℕ → Host → ℕ
   tag k c = idOf (nameIn (L .station k) c)

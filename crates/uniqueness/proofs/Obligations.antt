@@ -94,7 +94,7 @@ NotDue Off t = Unit {0}
 NotDue (Verifying n id timer) t = t < timer .due
 NotDue IsUnique t = Unit {0}
 NotDue (Defending id qtype qclass timer) t = ⊥
-NotDue HasStopped t = Unit {0}
+NotDue (HasStopped until) t = Unit {0}
 NotDue NameState.Shared t = ⊥
 
 -- a response can be for it
@@ -103,7 +103,7 @@ Waits Off = false
 Waits (Verifying n id timer) = true
 Waits IsUnique = false
 Waits (Defending id qtype qclass timer) = true
-Waits HasStopped = false
+Waits (HasStopped until) = false
 Waits NameState.Shared = false
 
 -- the station's own address, and an address with the octets a
@@ -181,16 +181,16 @@ pub record Meets (ReplyTo : ℕ → List ℕ → Bool → List ℕ → Type 0) (
       → Replied (ReplyTo id y true) (source L s a v) (hostWith s (verifying sends own due) t) (asking L s (verifying sends own due) clock t id y a v)
   pub query-unique : (clock t id : ℕ) (y a : List ℕ) (v : Receipt) → clock ≤ t → t ≤ top → id < 65536 → SameName y (L .name) → Octets a → length a ≡ usedBy6
       → Replied (ReplyTo id y false) (source L s a v) (hostWith s IsUnique t) (asking L s IsUnique clock t id y a v)
-  pub query-stopped : (clock t id : ℕ) (y a : List ℕ) (v : Receipt) → clock ≤ t → t ≤ top → id < 65536 → SameName y (L .name) → Octets a → length a ≡ usedBy6
-      → RefusedWith 13 (hostWith s HasStopped clock) (asking L s HasStopped clock t id y a v)
+  pub query-stopped : (until clock t id : ℕ) (y a : List ℕ) (v : Receipt) → clock ≤ t → t ≤ top → id < 65536 → SameName y (L .name) → Octets a → length a ≡ usedBy6
+      → RefusedWith 13 (hostWith s (HasStopped until) clock) (asking L s (HasStopped until) clock t id y a v)
   -- receive: a reply to the host's own query (its ID), from an address that is not its own
   pub reply-clear : (sends id due clock t : ℕ) (y a b : List ℕ) (v : Receipt) → clock ≤ t → t ≤ top → id < 65536 → SameName y (L .name)
       → Octets a → length a ≡ usedBy6 → sameAddress (address L a) (own L s) ≡ false → ReplyTo id y false b
-      → Taken (hostWith s HasStopped t) (Stopped (s .name)) (responded L s (verifying sends id due) clock t b a v)
+      → (until : ℕ) × Taken (hostWith s (HasStopped until) t) (Stopped (s .name)) (responded L s (verifying sends id due) clock t b a v)
   pub reply-below : (sends id due clock t : ℕ) (y a b : List ℕ) (v : Receipt) → clock ≤ t → t ≤ top → id < 65536 → SameName y (L .name)
       → Octets a → length a ≡ usedBy6 → sameAddress (address L a) (own L s) ≡ false → ReplyTo id y true b
       → belowAddress (address L a) (own L s) ≡ true
-      → Taken (hostWith s HasStopped t) (Stopped (s .name)) (responded L s (verifying sends id due) clock t b a v)
+      → (until : ℕ) × Taken (hostWith s (HasStopped until) t) (Stopped (s .name)) (responded L s (verifying sends id due) clock t b a v)
   pub reply-above : (sends id due clock t : ℕ) (y a b : List ℕ) (v : Receipt) → clock ≤ t → t ≤ top → id < 65536 → SameName y (L .name)
       → Octets a → length a ≡ usedBy6 → sameAddress (address L a) (own L s) ≡ false → ReplyTo id y true b
       → belowAddress (address L a) (own L s) ≡ false

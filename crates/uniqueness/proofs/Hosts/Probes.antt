@@ -59,5 +59,5 @@ module _ (O : Obligations) (L : Link) (C : Conditions L) (k t : ℕ) (l : k < L 
       (p .source-long)))
   observes stopped c r =
       subst (λ (c : Host). observed L (momentWith c t) k p ≡ Spec.stopped) (sym (r .is))
-      (refused-observed (laws O L C k l .query-stopped (r .clock) (p .time) (p .id) (p .spelling) (p .source) (p .receipt) (not-ahead (r .clock) (r .early)) (p .in-range) (p .id-fits)
+      (refused-observed (laws O L C k l .query-stopped (r .until) (r .clock) (p .time) (p .id) (p .spelling) (p .source) (p .receipt) (not-ahead (r .clock) (r .early)) (p .in-range) (p .id-fits)
       (p .same) (p .source-fits) (p .source-long)))

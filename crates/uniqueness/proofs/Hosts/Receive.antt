@@ -64,20 +64,20 @@ module _ (O : Obligations) (L : Link) (C : Conditions L) (ObservedAs : ℕ → �
     abbrev Answered : Claim → Done → Type 0
     Answered s d = A .StandsFor k t s (d .host) × Answers A a k g s (outcomeOf d .output)
 
-    answers : (id clock : ℕ) (y : List ℕ) → id < 65536 → clock ≤ t → g < 65536 → SameName y (L .name) → (s : Claim)
-        → Answered s (receives k a z t (hostWith (L .station k) (stateOf s id) clock) (groupOf (L .family)) (checkQuery g y))
-    answers id clock y f e fits same off =
-        refused-quiet O L C ObservedAs k t off id clock _ f e
+    answers : (id until clock : ℕ) (y : List ℕ) → id < 65536 → clock ≤ t → g < 65536 → SameName y (L .name) → (s : Claim)
+        → Answered s (receives k a z t (hostWith (L .station k) (stateOf s id until) clock) (groupOf (L .family)) (checkQuery g y))
+    answers id until clock y f e fits same off =
+        refused-quiet O L C ObservedAs k t off id until clock _ f e
         (laws O L C k l .query-off clock t g y (addressOf L a .octets) z e lt fits same (own-fits L C a la) (own-long L C a la))
-    answers id clock y f e fits same (verifying m d) =
+    answers id until clock y f e fits same (verifying m d) =
         let T = laws O L C k l .query-verifying m id d clock t g y (addressOf L a .octets) z e lt fits same (own-fits L C a la) (own-long L C a la) in
-        (stands L k t (verifying m d) id t _ f (omega arith) (T .host), replied-tells y true _ _ fits same T)
-    answers id clock y f e fits same unique =
+        (stands L k t (verifying m d) id until t _ f (omega arith) (T .host), replied-tells y true _ _ fits same T)
+    answers id until clock y f e fits same unique =
         let T = laws O L C k l .query-unique clock t g y (addressOf L a .octets) z e lt fits same (own-fits L C a la) (own-long L C a la) in
-        (stands L k t unique id t _ f (omega arith) (T .host), replied-tells y false _ _ fits same T)
-    answers id clock y f e fits same stopped =
-        refused-quiet O L C ObservedAs k t stopped id clock _ f e
-        (laws O L C k l .query-stopped clock t g y (addressOf L a .octets) z e lt fits same (own-fits L C a la) (own-long L C a la))
+        (stands L k t unique id until t _ f (omega arith) (T .host), replied-tells y false _ _ fits same T)
+    answers id until clock y f e fits same stopped =
+        refused-quiet O L C ObservedAs k t stopped id until clock _ f e
+        (laws O L C k l .query-stopped until clock t g y (addressOf L a .octets) z e lt fits same (own-fits L C a la) (own-long L C a la))
 
     pub query-in : (s : Claim) (c : Host) (b : Sent) → A .StandsFor k t s c → A .IsQuery a g b
         → A .StandsFor k t s (A .calls .receive k c z t a b .state) × Answers A a k g s (A .calls .receive k c z t a b .output)
@@ -85,10 +85,10 @@ module _ (O : Obligations) (L : Link) (C : Conditions L) (ObservedAs : ℕ → �
         subst (λ (c : Host). Answered s (receives k a z t c (b .to .address) (b .octets))) (sym (r .is))
         (subst (λ (x : Address). Answered s (receives k a z t c₀ x (b .octets))) (sym (q .to))
         (subst (λ (x : List ℕ). Answered s (receives k a z t c₀ (groupOf (L .family)) x)) (sym (q .octets))
-        (answers (r .id) (r .clock) (q .spelling) (r .id-fits) (r .early) (q .id-fits) (q .same) s)))
+        (answers (r .id) (r .until) (r .clock) (q .spelling) (r .id-fits) (r .early) (q .id-fits) (q .same) s)))
       where
         c₀ : Host
-        c₀ = hostWith (L .station k) (stateOf s (r .id)) (r .clock)
+        c₀ = hostWith (L .station k) (stateOf s (r .id) (r .until)) (r .clock)
 
   -- 2. A REPLY
 
@@ -120,49 +120,46 @@ module _ (O : Obligations) (L : Link) (C : Conditions L) (ObservedAs : ℕ → �
         go (no p) = refl
 
     module _ (b y : List ℕ) (fits : g < 65536) (same : SameName y (L .name)) where
-      abbrev TakesIn : Bool → Claim → ℕ → ℕ → Type 0
-      TakesIn f s id clock = TakenIn f s (receives a k z t (hostWith (L .station a) (stateOf s id) clock) (addressOf L a) b)
+      abbrev TakesIn : Bool → Claim → ℕ → ℕ → ℕ → Type 0
+      TakesIn f s id until clock = TakenIn f s (receives a k z t (hostWith (L .station a) (stateOf s id until) clock) (addressOf L a) b)
 
       -- nobody waits for it
-      late : (s : Claim) (f : Bool) (id clock : ℕ) → id < 65536 → clock ≤ t → O .ReplyTo g y f b → Waits (stateOf s id) ≡ false → claimAfter f s ≡ s
-          → ((m d : ℕ) → s ≢ verifying m d) → TakesIn f s id clock
-      late s f id clock id-fits e replies waits-not claim-is not-verifying =
-          let T = laws O L C a la .reply-late (stateOf s id) clock t g y (addressOf L k .octets) b f z e lt fits same (own-fits L C k lk)
+      late : (s : Claim) (f : Bool) (id until clock : ℕ) → id < 65536 → clock ≤ t → O .ReplyTo g y f b → Waits (stateOf s id until) ≡ false → claimAfter f s ≡ s
+          → ((m d : ℕ) → s ≢ verifying m d) → TakesIn f s id until clock
+      late s f id until clock id-fits e replies waits-not claim-is not-verifying =
+          let T = laws O L C a la .reply-late (stateOf s id until) clock t g y (addressOf L k .octets) b f z e lt fits same (own-fits L C k lk)
           (own-long L C k lk) replies waits-not in
-          let (stand, o) = refused-quiet O L C ObservedAs a t s id clock _ id-fits e T in
+          let (stand, o) = refused-quiet O L C ObservedAs a t s id until clock _ id-fits e T in
           ((rw claim-is stand, o), λ m d v. absurd (not-verifying m d (sym claim-is ∙ v)))
 
-      clear : (m id d clock : ℕ) → id ≡ g → clock ≤ t → O .ReplyTo g y false b → TakesIn false (verifying m d) id clock
-      clear m id d clock own-id e replies = (
-        taken-quiet O L C ObservedAs a t stopped id (Stopped (L .station a .name)) _ (rw own-id fits)
-            (laws O L C a la .reply-clear m id d clock t y (addressOf L k .octets) b z e lt (rw own-id fits) same (own-fits L C k lk)
-            (own-long L C k lk) (C .apart k a lk la ne) (rw own-id replies))
-            (λ b. refl),
-        λ m′ d′ v. clash cc,
-      )
+      clear : (m id until d clock : ℕ) → id ≡ g → clock ≤ t → O .ReplyTo g y false b → TakesIn false (verifying m d) id until clock
+      clear m id until d clock own-id e replies =
+          let (new, T) = laws O L C a la .reply-clear m id d clock t y (addressOf L k .octets) b z e lt (rw own-id fits) same (own-fits L C k lk)
+          (own-long L C k lk) (C .apart k a lk la ne) (rw own-id replies) in
+          (taken-quiet O L C ObservedAs a t stopped id new (Stopped (L .station a .name)) _ (rw own-id fits) T (λ b. refl), λ m′ d′ v. clash cc)
 
-      set : (m id d clock : ℕ) → id ≡ g → clock ≤ t → O .ReplyTo g y true b → (x : Bool) → belowAddress (addressOf L k) (addressOf L a) ≡ x
-          → TakesIn true (verifying m d) id clock
-      set m id d clock own-id e replies true is-below =
-          let T = laws O L C a la .reply-below m id d clock t y (addressOf L k .octets) b z e lt (rw own-id fits) same (own-fits L C k lk)
+      set : (m id until d clock : ℕ) → id ≡ g → clock ≤ t → O .ReplyTo g y true b → (x : Bool) → belowAddress (addressOf L k) (addressOf L a) ≡ x
+          → TakesIn true (verifying m d) id until clock
+      set m id until d clock own-id e replies true is-below =
+          let (new, T) = laws O L C a la .reply-below m id d clock t y (addressOf L k .octets) b z e lt (rw own-id fits) same (own-fits L C k lk)
           (own-long L C k lk) (C .apart k a lk la ne) (rw own-id replies) is-below in
-          let (stand, o) = taken-quiet O L C ObservedAs a t stopped id (Stopped (L .station a .name)) _ (rw own-id fits) T (λ b. refl) in
+          let (stand, o) = taken-quiet O L C ObservedAs a t stopped id new (Stopped (L .station a .name)) _ (rw own-id fits) T (λ b. refl) in
           let claim-is = lower m d is-below in
           ((rw claim-is stand, o), λ m′ d′ v. let u = sym claim-is ∙ v in clash cc)
-      set m id d clock own-id e replies false is-below =
+      set m id until d clock own-id e replies false is-below =
           let T = laws O L C a la .reply-above m id d clock t y (addressOf L k .octets) b z e lt (rw own-id fits) same (own-fits L C k lk)
           (own-long L C k lk) (C .apart k a lk la ne) (rw own-id replies) is-below in
-          let (stand, o) = taken-quiet O L C ObservedAs a t (verifying m d) id (Kept (L .station a .name)) _ (rw own-id fits) T (λ b. refl) in
+          let (stand, o) = taken-quiet O L C ObservedAs a t (verifying m d) id until (Kept (L .station a .name)) _ (rw own-id fits) T (λ b. refl) in
           let claim-is = higher m d is-below in
           ((rw claim-is stand, o), λ m′ d′ v. tag-is O L C a la (verifyingWith m id d) t _ (T .host) ∙ own-id)
 
-      takes-in : (s : Claim) (f : Bool) (id clock : ℕ) → id < 65536 → clock ≤ t → O .ReplyTo g y f b → ((m d : ℕ) → s ≡ verifying m d → id ≡ g)
-          → TakesIn f s id clock
-      takes-in off f id clock id-fits e replies tagged = late off f id clock id-fits e replies refl refl (λ m d v. clash cc)
-      takes-in (verifying m d) false id clock id-fits e replies tagged = clear m id d clock (tagged m d refl) e replies
-      takes-in (verifying m d) true id clock id-fits e replies tagged = set m id d clock (tagged m d refl) e replies (belowAddress (addressOf L k) (addressOf L a)) refl
-      takes-in unique f id clock id-fits e replies tagged = late unique f id clock id-fits e replies refl refl (λ m d v. clash cc)
-      takes-in stopped f id clock id-fits e replies tagged = late stopped f id clock id-fits e replies refl refl (λ m d v. clash cc)
+      takes-in : (s : Claim) (f : Bool) (id until clock : ℕ) → id < 65536 → clock ≤ t → O .ReplyTo g y f b → ((m d : ℕ) → s ≡ verifying m d → id ≡ g)
+          → TakesIn f s id until clock
+      takes-in off f id until clock id-fits e replies tagged = late off f id until clock id-fits e replies refl refl (λ m d v. clash cc)
+      takes-in (verifying m d) false id until clock id-fits e replies tagged = clear m id until d clock (tagged m d refl) e replies
+      takes-in (verifying m d) true id until clock id-fits e replies tagged = set m id until d clock (tagged m d refl) e replies (belowAddress (addressOf L k) (addressOf L a)) refl
+      takes-in unique f id until clock id-fits e replies tagged = late unique f id until clock id-fits e replies refl refl (λ m d v. clash cc)
+      takes-in stopped f id until clock id-fits e replies tagged = late stopped f id until clock id-fits e replies refl refl (λ m d v. clash cc)
 
     pub reply-in : (s : Claim) (c : Host) (b : Sent) (f : Bool) → A .StandsFor a t s c → ((m d : ℕ) → s ≡ verifying m d → A .tag a c ≡ g)
         → A .IsReply a k g f b
@@ -170,11 +167,11 @@ module _ (O : Obligations) (L : Link) (C : Conditions L) (ObservedAs : ℕ → �
     reply-in s c b f r tagged q =
         subst (λ (c : Host). TakenIn f s (receives a k z t c (b .to .address) (b .octets))) (sym (r .is))
         (subst (λ (x : Address). TakenIn f s (receives a k z t c₀ x (b .octets))) (sym (q .to))
-        (takes-in (b .octets) (q .spelling) (q .id-fits) (q .same) s f (r .id) (r .clock) (r .id-fits) (r .early) (q .octets) same-id))
+        (takes-in (b .octets) (q .spelling) (q .id-fits) (q .same) s f (r .id) (r .until) (r .clock) (r .id-fits) (r .early) (q .octets) same-id))
       where
         c₀ : Host
-        c₀ = hostWith (L .station a) (stateOf s (r .id)) (r .clock)
+        c₀ = hostWith (L .station a) (stateOf s (r .id) (r .until)) (r .clock)
 
         same-id : (m d : ℕ) → s ≡ verifying m d → r .id ≡ g
         same-id m d e =
-            sym (ap (λ (s : Claim). idOf (stateOf s (r .id))) e) ∙ sym (tag-is O L C a la (stateOf s (r .id)) (r .clock) c (r .is)) ∙ tagged m d e
+            sym (ap (λ (s : Claim). idOf (stateOf s (r .id) (r .until))) e) ∙ sym (tag-is O L C a la (stateOf s (r .id) (r .until)) (r .clock) c (r .is)) ∙ tagged m d e

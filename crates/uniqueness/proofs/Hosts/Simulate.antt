@@ -47,7 +47,7 @@ module _ (O : Obligations) (L : Link) (C : Conditions L) where
     pub simulates : Simulates (system O L C ObservedAs)
     unfolding OfName OnInterface
     simulates = record {
-      later = λ k t t′ s c le r. stands L k t′ s (r .id) (r .clock) c (r .id-fits) (let e = r .early in omega arith) (r .is);
+      later = λ k t t′ s c le r. stands L k t′ s (r .id) (r .until) (r .clock) c (r .id-fits) (let e = r .early in omega arith) (r .is);
       observed = observed;
       only = only;
       routed = routed;

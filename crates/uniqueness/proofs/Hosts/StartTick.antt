@@ -21,28 +21,28 @@ use Rattle.uniqueness.proofs.Obligations.{hostWith, NotDue, Asked, Refu
 use Rattle.uniqueness.proofs.Obligations.{verifying as verifyingWith}
 use Rattle.uniqueness.proofs.Hosts.{Sent, outputOf, sentOf, outcomeOf, refused-is, sent-is, Inputs, stateOf, laws, tag-is, StandsFor, IsQuery, OfName, OnInterface, system}
 
-pub stands : (L : Link) (k t : ℕ) (s : Claim) (id clock : ℕ) (c : Host) → id < 65536 → clock ≤ t → c ≡ hostWith (L .station k) (stateOf s id) clock
+pub stands : (L : Link) (k t : ℕ) (s : Claim) (id until clock : ℕ) (c : Host) → id < 65536 → clock ≤ t → c ≡ hostWith (L .station k) (stateOf s id until) clock
     → StandsFor L k t s c
-stands L k t s id clock c f e is = record { id = id; id-fits = f; clock = clock; early = e; is = is }
+stands L k t s id until clock c f e is = record { id = id; id-fits = f; until = until; clock = clock; early = e; is = is }
 
 module _ (O : Obligations) (L : Link) (C : Conditions L) (ObservedAs : ℕ → ℕ → Host → Kind → Type 0) where
   abbrev A : System Host Sent Inputs Receipt ℕ
   A = system O L C ObservedAs
 
   -- a refused call, or one that sends nothing, leaves a state that stands for s
-  pub refused-quiet : {n : ℕ} (k t : ℕ) (s : Claim) (id clock : ℕ) (d : Done) → id < 65536 → clock ≤ t
-      → RefusedWith n (hostWith (L .station k) (stateOf s id) clock) d → QuietAs A k t s (outcomeOf d)
-  refused-quiet k t s id clock d f e T = (stands L k t s id clock (d .host) f e (T .host), ap (λ (o : Result). outputOf (sort o) (sentOf d)) (T .outcome))
+  pub refused-quiet : {n : ℕ} (k t : ℕ) (s : Claim) (id until clock : ℕ) (d : Done) → id < 65536 → clock ≤ t
+      → RefusedWith n (hostWith (L .station k) (stateOf s id until) clock) d → QuietAs A k t s (outcomeOf d)
+  refused-quiet k t s id until clock d f e T = (stands L k t s id until clock (d .host) f e (T .host), ap (λ (o : Result). outputOf (sort o) (sentOf d)) (T .outcome))
 
-  pub taken-quiet : (k t : ℕ) (s : Claim) (id : ℕ) (o : Result) (d : Done) → id < 65536 → Taken (hostWith (L .station k) (stateOf s id) t) o d
+  pub taken-quiet : (k t : ℕ) (s : Claim) (id until : ℕ) (o : Result) (d : Done) → id < 65536 → Taken (hostWith (L .station k) (stateOf s id until) t) o d
       → ((b : Sent) → outputOf (sort o) b ≡ nothing) → QuietAs A k t s (outcomeOf d)
-  taken-quiet k t s id o d f T e =
-      (stands L k t s id t (d .host) f (omega arith) (T .host), ap (λ (o : Result). outputOf (sort o) (sentOf d)) (T .outcome) ∙ e (sentOf d))
+  taken-quiet k t s id until o d f T e =
+      (stands L k t s id until t (d .host) f (omega arith) (T .host), ap (λ (o : Result). outputOf (sort o) (sentOf d)) (T .outcome) ∙ e (sentOf d))
 
   asked-asks : (k : ℕ) (l : k < L .count) (m id due t : ℕ) (d : Done) → id < 65536
       → Asked L (C .stations k l .spelling) id (hostWith (L .station k) (verifyingWith m id due) t) d → AsksAs A k t (verifying m due) (outcomeOf d)
   asked-asks k l m id due t d f T = (
-    stands L k t (verifying m due) id t (d .host) f (omega arith) (T .host),
+    stands L k t (verifying m due) id 0 t (d .host) f (omega arith) (T .host),
     record {
       what = sentOf d;
       is = ap (λ (o : Result). outputOf (sort o) (sentOf d)) (T .outcome);
@@ -88,43 +88,43 @@ module _ (O : Obligations) (L : Link) (C : Conditions L) (ObservedAs : ℕ → �
     pub start-refused : (s : Claim) (c : Host) → A .StandsFor k t s c → Refuses s c
     start-refused s c r = subst (λ (c : Host). Refuses s c) (sym (r .is)) go
       where
-        go : Refuses s (hostWith (L .station k) (stateOf s (r .id)) (r .clock))
+        go : Refuses s (hostWith (L .station k) (stateOf s (r .id) (r .until)) (r .clock))
         go not′ =
-            let d = start (hostWith (L .station k) (stateOf s (r .id)) (r .clock)) (L .station k .table) (x .interface) (x .name) t (x .lent .id)
+            let d = start (hostWith (L .station k) (stateOf s (r .id) (r .until)) (r .clock)) (L .station k .table) (x .interface) (x .name) t (x .lent .id)
             (x .lent .out) in
             let (why, e) = refused-is (d .result) not′ in (
-              stands L k t s (r .id) (r .clock) (d .host) (r .id-fits) (r .early)
-                  (laws O L C k l .start-refused (stateOf s (r .id)) (r .clock) (x .interface) (x .name) t (x .lent) why (r .early) lt e),
+              stands L k t s (r .id) (r .until) (r .clock) (d .host) (r .id-fits) (r .early)
+                  (laws O L C k l .start-refused (stateOf s (r .id) (r .until)) (r .clock) (x .interface) (x .name) t (x .lent) why (r .early) lt e),
               ap (λ (o : Result). outputOf (sort o) (sentOf d)) e,
             )
 
     -- tick
-    abbrev Ticks : Claim → ℕ → ℕ → ℕ → Type 0
-    Ticks s id clock i =
-        Ticked A k s x t (outcomeOf (tick (hostWith (L .station k) (stateOf s id) clock) (L .station k .table) i t (x .lent .id) (x .lent .out)))
+    abbrev Ticks : Claim → ℕ → ℕ → ℕ → ℕ → Type 0
+    Ticks s id until clock i =
+        Ticked A k s x t (outcomeOf (tick (hostWith (L .station k) (stateOf s id until) clock) (L .station k .table) i t (x .lent .id) (x .lent .out)))
 
     -- nothing is due
-    idle : (s : Claim) (id clock : ℕ) → id < 65536 → clock ≤ t → NotDue (stateOf s id) t → ((m d : ℕ) → s ≡ verifying m d → t < d)
-        → Ticks s id clock (L .station k .interface)
-    idle s id clock f e quiet early =
+    idle : (s : Claim) (id until clock : ℕ) → id < 65536 → clock ≤ t → NotDue (stateOf s id until) t → ((m d : ℕ) → s ≡ verifying m d → t < d)
+        → Ticks s id until clock (L .station k .interface)
+    idle s id until clock f e quiet early =
         Ticked.unchanged (λ g. early)
-        (taken-quiet k t s id Quiet _ f (laws O L C k l .tick-quiet (stateOf s id) clock t (x .lent) e lt quiet) (λ b. refl))
+        (taken-quiet k t s id until Quiet _ f (laws O L C k l .tick-quiet (stateOf s id until) clock t (x .lent) e lt quiet) (λ b. refl))
 
-    served : (id clock : ℕ) → id < 65536 → clock ≤ t → (s : Claim) → Ticks s id clock (L .station k .interface)
-    served id clock f e off = idle off id clock f e tt (λ m d z. clash cc)
-    served id clock f e (verifying m d) = go (decLt t d) (decLt m sendsInAll)
+    served : (id until clock : ℕ) → id < 65536 → clock ≤ t → (s : Claim) → Ticks s id until clock (L .station k .interface)
+    served id until clock f e off = idle off id until clock f e tt (λ m d z. clash cc)
+    served id until clock f e (verifying m d) = go (decLt t d) (decLt m sendsInAll)
       where
-        go : Dec (t < d) → Dec (m < sendsInAll) → Ticks (verifying m d) id clock (L .station k .interface)
-        go (yes early) three = idle (verifying m d) id clock f e early (λ m′ d′ z. let w : d ≡ d′ = cc in omega arith)
+        go : Dec (t < d) → Dec (m < sendsInAll) → Ticks (verifying m d) id until clock (L .station k .interface)
+        go (yes early) three = idle (verifying m d) id until clock f e early (λ m′ d′ z. let w : d ≡ d′ = cc in omega arith)
         go (no due) (yes less) =
             Ticked.again m d refl (omega arith) less
             (asked-asks k l (suc m) id (t + L .interval) t _ f (laws O L C k l .tick-again m id d clock t (x .lent) e lt f (omega arith) less))
         go (no due) (no enough) =
             Ticked.turns-unique m d refl (omega arith) (omega arith)
-            (taken-quiet k t unique id (Unique (L .station k .name)) _ f
+            (taken-quiet k t unique id until (Unique (L .station k .name)) _ f
             (laws O L C k l .tick-unique m id d clock t (x .lent) e lt (omega arith) (omega arith)) (λ b. refl))
-    served id clock f e unique = idle unique id clock f e tt (λ m d z. clash cc)
-    served id clock f e stopped = idle stopped id clock f e tt (λ m d z. clash cc)
+    served id until clock f e unique = idle unique id until clock f e tt (λ m d z. clash cc)
+    served id until clock f e stopped = idle stopped id until clock f e tt (λ m d z. clash cc)
 
     pub ticked : (s : Claim) (c : Host) → A .StandsFor k t s c → Ticked A k s x t (A .calls .tick k c x t)
     unfolding OnInterface
@@ -132,11 +132,11 @@ module _ (O : Obligations) (L : Link) (C : Conditions L) (ObservedAs : ℕ → �
         subst (λ (c : Host). Ticked A k s x t (A .calls .tick k c x t)) (sym (r .is))
         (dite (ℕ-discrete (x .interface) (L .station k .interface)) here there)
       where
-        here : x .interface ≡ L .station k .interface → Ticks s (r .id) (r .clock) (x .interface)
-        here e = subst (λ (i : ℕ). Ticks s (r .id) (r .clock) i) (sym e) (served (r .id) (r .clock) (r .id-fits) (r .early) s)
+        here : x .interface ≡ L .station k .interface → Ticks s (r .id) (r .until) (r .clock) (x .interface)
+        here e = subst (λ (i : ℕ). Ticks s (r .id) (r .until) (r .clock) i) (sym e) (served (r .id) (r .until) (r .clock) (r .id-fits) (r .early) s)
 
-        there : x .interface ≢ L .station k .interface → Ticks s (r .id) (r .clock) (x .interface)
+        there : x .interface ≢ L .station k .interface → Ticks s (r .id) (r .until) (r .clock) (x .interface)
         there ne =
             Ticked.unchanged (λ g. absurd (ne g))
-            (refused-quiet k t s (r .id) (r .clock) _ (r .id-fits) (r .early)
-            (laws O L C k l .tick-unused (stateOf s (r .id)) (r .clock) (x .interface) t (x .lent) (r .early) lt ne))
+            (refused-quiet k t s (r .id) (r .until) (r .clock) _ (r .id-fits) (r .early)
+            (laws O L C k l .tick-unused (stateOf s (r .id) (r .until)) (r .clock) (x .interface) t (x .lent) (r .early) lt ne))

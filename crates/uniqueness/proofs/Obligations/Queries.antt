@@ -18,7 +18,7 @@ use Rattle.message.specs.Reply.{replyHeader}
 use Rattle.message.proofs.Headers.{header-is}
 use Rattle.host.specs.declared.NameState.{NameState}
 use Rattle.host.specs.declared.NameState.the-variants.{Off, Unique, Stopped}
-use Rattle.host.specs.State.{verifying, shared, is}
+use Rattle.host.specs.State.{verifying, shared, is, HasStopped}
 use Rattle.host.specs.Outcomes.{Done}
 use Rattle.host.specs.Asking.{checkQuery}
 use Rattle.host.specs.Sent.{queryHeader}
@@ -75,7 +75,7 @@ module _ (L : Link) (c : Conditions L) (s : Station) (o : OnLink L s) where
     query-state = state-is L c s o x clock t f g y w group (checkQuery id y) a v
 
     -- of a name that is neither Off nor Stopped nor Shared
-    query-replied : (tb : Bool) → x ≢ Off → x ≢ Stopped → is shared x ≡ false → is verifying x ≡ tb
+    query-replied : (tb : Bool) → x ≢ Off → (HasStopped x → ⊥) → is shared x ≡ false → is verifying x ≡ tb
         → Replied (ReplyTo id y tb) (source L s a v) (hostWith s x t) (asking L s x clock t id y a v)
     query-replied tb not-off not-stopped not-shared is-verifying =
         let st = query-state in
@@ -88,7 +88,7 @@ module _ (L : Link) (c : Conditions L) (s : Station) (o : OnLink L s) where
           name = query-name;
           c-clear = ap (λ (z : Header). z .conflict) (query-reads .header);
           not-off = λ e. not-off (sym st ∙ e);
-          not-stopped = λ e. not-stopped (sym st ∙ e);
+          not-stopped = λ p. not-stopped (p .0, sym st ∙ p .1);
         } in
         let e = replies (hostWith s x clock) query-here when in
         let r = reply-read (hostWith s x clock) query-here _ when (query-is-octets y (L .name) w id h) (ap (λ (d : Done). d .result) e) in
@@ -135,24 +135,24 @@ module _ (L : Link) (c : Conditions L) (s : Station) (o : OnLink L s) where
       → Replied (ReplyTo id y true) (source L s a v) (hostWith s (verifyingWith sends own due) t) (asking L s (verifyingWith sends own due) clock t id y a v)
   query-verifying sends own due clock t id y a v f g h w q n =
       query-replied (verifyingWith sends own due) clock t id y a v f g h w true
-      (λ e. let z : _≡_ {A = ℕ} 0 1 = cc in omega arith) (λ e. let z : _≡_ {A = ℕ} 0 1 = cc in omega arith) refl refl
+      (λ e. let z : _≡_ {A = ℕ} 0 1 = cc in omega arith) (λ p. let e = p .1 in let z : _≡_ {A = ℕ} 0 1 = cc in omega arith) refl refl
 
   pub query-unique : (clock t id : ℕ) (y a : List ℕ) (v : Receipt) → clock ≤ t → t ≤ top → id < 65536 → SameName y (L .name) → Octets a → length a ≡ usedBy6
       → Replied (ReplyTo id y false) (source L s a v) (hostWith s Unique t) (asking L s Unique clock t id y a v)
   query-unique clock t id y a v f g h w q n =
       query-replied Unique clock t id y a v f g h w false
-      (λ e. let z : _≡_ {A = ℕ} 0 1 = cc in omega arith) (λ e. let z : _≡_ {A = ℕ} 0 1 = cc in omega arith) refl refl
+      (λ e. let z : _≡_ {A = ℕ} 0 1 = cc in omega arith) (λ p. let e = p .1 in let z : _≡_ {A = ℕ} 0 1 = cc in omega arith) refl refl
 
-  pub query-stopped : (clock t id : ℕ) (y a : List ℕ) (v : Receipt) → clock ≤ t → t ≤ top → id < 65536 → SameName y (L .name) → Octets a → length a ≡ usedBy6
-      → RefusedWith 13 (hostWith s Stopped clock) (asking L s Stopped clock t id y a v)
-  query-stopped clock t id y a v f g h w q n =
+  pub query-stopped : (until clock t id : ℕ) (y a : List ℕ) (v : Receipt) → clock ≤ t → t ≤ top → id < 65536 → SameName y (L .name) → Octets a → length a ≡ usedBy6
+      → RefusedWith 13 (hostWith s (Stopped until) clock) (asking L s (Stopped until) clock t id y a v)
+  query-stopped until clock t id y a v f g h w q n =
       refused-with 13 _ _ _
       (has-stopped _ _
       (record {
         names = held L s o;
         q = asks y;
         k = s .name;
-        query = query-arrives Stopped clock t id y a v f g h w;
-        name = query-name Stopped clock t id y a v f g h w;
-        stopped = query-state Stopped clock t id y a v f g h w;
+        query = query-arrives (Stopped until) clock t id y a v f g h w;
+        name = query-name (Stopped until) clock t id y a v f g h w;
+        stopped = (until, query-state (Stopped until) clock t id y a v f g h w);
       }))

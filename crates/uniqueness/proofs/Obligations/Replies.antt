@@ -16,7 +16,8 @@ use Rattle.message.specs.Reply.{replyHeader}
 use Rattle.host.specs.declared.NameState.{NameState}
 use Rattle.host.specs.declared.NameState.the-variants.{Off, Verifying, Unique, Defending, Stopped, Shared}
 use Rattle.host.specs.Outcomes.{Done, kept as Kept, stopped as StoppedName}
-use Rattle.host.specs.Receive.{Arrival}
+use Rattle.host.specs.Receive.{Arrival, header}
+use Rattle.host.specs.Stopping.{stoppedUntil}
 use Rattle.host.specs.ExactlyWhen.{ResponseArrives, AsksFor, stateHere, WaitsFor, TakenBy, IsAwaited, IsTaken, MatchArrives}
 use Rattle.host.proofs.Received.{not-ours, stops-it, keeps-it, not-awaited}
 use Rattle.uniqueness.specs.Link.{Station, Link, Receipt, SameName, OnLink, Conditions}
@@ -33,7 +34,7 @@ waits-not Off id qtype class e w = w
 waits-not (Verifying n own timer) id qtype class e w = never refl e
 waits-not Unique id qtype class e w = w
 waits-not (Defending own own-type own-class timer) id qtype class e w = never refl e
-waits-not Stopped id qtype class e w = w
+waits-not (Stopped until) id qtype class e w = w
 waits-not Shared id qtype class e w = w
 
 module _ (L : Link) (c : Conditions L) (s : Station) (o : OnLink L s) where
@@ -80,10 +81,11 @@ module _ (L : Link) (c : Conditions L) (s : Station) (o : OnLink L s) where
         ∙ ap (TakenBy (stateHere (hostWith s x clock) reply-here (s .name)) (headerOf b .tentative) (address L a)) (sym (own-is L c s o x clock))
 
     reply-stops : sameAddress (address L a) (own L s) ≡ false → WaitsFor x id typeANY classIN → TakenBy x tb (address L a) (own L s)
-        → Taken (hostWith s Stopped t) (StoppedName (s .name)) (responded L s x clock t b a v)
+        → (until : ℕ) × Taken (hostWith s (Stopped until) t) (StoppedName (s .name)) (responded L s x clock t b a v)
     reply-stops e m p =
         let d = stops-it (hostWith s x clock) reply-here (s .name) (record { names = held L s o; q = asks y; match = matches e m; taken = subst (λ (A : Type 0). A) taken-is p }) in
-        record { host = ap (λ (u : Done). u .host) d ∙ write-at s (o .four) (o .used) (few-is L s o) x Stopped clock t; outcome = ap (λ (u : Done). u .result) d }
+        let until : ℕ = stoppedUntil t (header reply-here .answers) b (asks y .end) in
+        (until, record { host = ap (λ (u : Done). u .host) d ∙ write-at s (o .four) (o .used) (few-is L s o) x (Stopped until) clock t; outcome = ap (λ (u : Done). u .result) d })
 
     reply-keeps : sameAddress (address L a) (own L s) ≡ false → WaitsFor x id typeANY classIN → (TakenBy x tb (address L a) (own L s) → ⊥)
         → Taken (hostWith s x t) (Kept (s .name)) (responded L s x clock t b a v)
@@ -94,14 +96,14 @@ module _ (L : Link) (c : Conditions L) (s : Station) (o : OnLink L s) where
 
   pub reply-clear : (sends id due clock t : ℕ) (y a b : List ℕ) (v : Receipt) → clock ≤ t → t ≤ top → id < 65536 → SameName y (L .name)
       → Octets a → length a ≡ usedBy6 → sameAddress (address L a) (own L s) ≡ false → ReplyTo id y false b
-      → Taken (hostWith s Stopped t) (StoppedName (s .name)) (responded L s (verifyingWith sends id due) clock t b a v)
+      → (until : ℕ) × Taken (hostWith s (Stopped until) t) (StoppedName (s .name)) (responded L s (verifyingWith sends id due) clock t b a v)
   reply-clear sends id due clock t y a b v f g h w q n e r =
       reply-stops (verifyingWith sends id due) clock t id y a b v f g w false r e (refl, refl, refl) (inl refl)
 
   pub reply-below : (sends id due clock t : ℕ) (y a b : List ℕ) (v : Receipt) → clock ≤ t → t ≤ top → id < 65536 → SameName y (L .name)
       → Octets a → length a ≡ usedBy6 → sameAddress (address L a) (own L s) ≡ false → ReplyTo id y true b
       → belowAddress (address L a) (own L s) ≡ true
-      → Taken (hostWith s Stopped t) (StoppedName (s .name)) (responded L s (verifyingWith sends id due) clock t b a v)
+      → (until : ℕ) × Taken (hostWith s (Stopped until) t) (StoppedName (s .name)) (responded L s (verifyingWith sends id due) clock t b a v)
   reply-below sends id due clock t y a b v f g h w q n e r l =
       reply-stops (verifyingWith sends id due) clock t id y a b v f g w true r e (refl, refl, refl) (inr l)
 

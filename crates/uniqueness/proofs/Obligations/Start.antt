@@ -46,7 +46,7 @@ module _ (L : Link) (c : Conditions L) (s : Station) (o : OnLink L s) where
         names = o .unique .names;
         called = called-well L s o c Off clock t (v .out) (v .room) f g;
         in-table = o .unique .inside;
-        idle = inl (state-at s (o .four) (o .used) (few-is L s o) Off clock);
+        may-start = inl (state-at s (o .four) (o .used) (few-is L s o) Off clock);
         kind-is = o .unique .kind;
       }) in
       goes-out L s o c Off clock (v .id) _ (v .out) _ (v .room)

@@ -27,7 +27,7 @@ not-due Off t r d = d
 not-due (Verifying n id timer) t r d = omega arith
 not-due Unique t r d = d
 not-due (Defending id qtype qclass timer) t r d = r
-not-due Stopped t r d = d
+not-due (Stopped until) t r d = d
 not-due Shared t r d = r
 
 module _ (L : Link) (c : Conditions L) (s : Station) (o : OnLink L s) where

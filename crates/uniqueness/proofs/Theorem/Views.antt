@@ -76,6 +76,7 @@ module _ (O : Obligations) (L : Link) (C : Conditions L) where
   fresh-stands k l = record {
     id = 0;
     id-fits = omega arith;
+    until = 0;
     clock = L .station k .time;
     early = latest-after (L .station) (L .count) k l;
     is = laws O L C k l .set-up-off;

@@ -22,7 +22,7 @@ others c Off e = refl
 others c (Verifying sends id timer) e = refl
 others c Unique e = refl
 others c (Defending id qtype qclass timer) e = refl
-others c Stopped e = refl
+others c (Stopped until) e = refl
 others c Shared e = absurd (miss (0 ∷ 1 ∷ 2 ∷ 3 ∷ 4 ∷ []) 5 tt (rw e at (c .match .keys2)))
 
 returns-2 : tie.Need-returns-2

@@ -22,7 +22,7 @@ others c Off e = refl
 others c (Verifying sends id timer) e = absurd (miss (0 ∷ 2 ∷ 3 ∷ 4 ∷ 5 ∷ []) 1 tt (rw e at (c .match .keys2)))
 others c Unique e = refl
 others c (Defending id qtype qclass timer) e = refl
-others c Stopped e = refl
+others c (Stopped until) e = refl
 others c Shared e = refl
 
 returns-2 : tie.Need-returns-2

@@ -39,7 +39,7 @@ set c Off e = absurd (miss (1 ∷ 3 ∷ 5 ∷ []) 0 tt (rw e at (c .match .keys4
 set c (Verifying sends id timer) e = refl
 set c Unique e = absurd (miss (1 ∷ 3 ∷ 5 ∷ []) 2 tt (rw e at (c .match .keys4)))
 set c (Defending id qtype qclass timer) e = refl
-set c Stopped e = absurd (miss (1 ∷ 3 ∷ 5 ∷ []) 4 tt (rw e at (c .match .keys4)))
+set c (Stopped until) e = absurd (miss (1 ∷ 3 ∷ 5 ∷ []) 4 tt (rw e at (c .match .keys4)))
 set c Shared e = refl
 
 clear : (c : tie.At-match-keys4) (state : NameState) → c .before .args .state ≡ state → Answer ≡ queryJudged state false
@@ -47,7 +47,7 @@ clear c Off e = absurd (miss (1 ∷ 3 ∷ 5 ∷ []) 0 tt (rw e at (c .match .key
 clear c (Verifying sends id timer) e = refl
 clear c Unique e = absurd (miss (1 ∷ 3 ∷ 5 ∷ []) 2 tt (rw e at (c .match .keys4)))
 clear c (Defending id qtype qclass timer) e = refl
-clear c Stopped e = absurd (miss (1 ∷ 3 ∷ 5 ∷ []) 4 tt (rw e at (c .match .keys4)))
+clear c (Stopped until) e = absurd (miss (1 ∷ 3 ∷ 5 ∷ []) 4 tt (rw e at (c .match .keys4)))
 clear c Shared e = refl
 
 returns-5 : tie.Need-returns-5

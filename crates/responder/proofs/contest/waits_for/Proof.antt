@@ -35,7 +35,7 @@ others c Off own own-type class e = refl
 others c (Verifying sends id timer) own own-type class e = absurd (miss (0 ∷ 2 ∷ 4 ∷ 5 ∷ []) 1 tt (rw e at (c .match .keys3)))
 others c Unique own own-type class e = refl
 others c (Defending id qtype qclass timer) own own-type class e = absurd (miss (0 ∷ 2 ∷ 4 ∷ 5 ∷ []) 3 tt (rw e at (c .match .keys3)))
-others c Stopped own own-type class e = refl
+others c (Stopped until) own own-type class e = refl
 others c Shared own own-type class e = refl
 
 returns-3 : tie.Need-returns-3

@@ -24,7 +24,7 @@ others c Off s time e = refl
 others c (Verifying sends id timer) s time e = absurd (miss (0 ∷ 2 ∷ 3 ∷ 4 ∷ 5 ∷ []) 1 tt (rw e at (c .match .keys2)))
 others c Unique s time e = refl
 others c (Defending id qtype qclass timer) s time e = refl
-others c Stopped s time e = refl
+others c (Stopped until) s time e = refl
 others c Shared s time e = refl
 
 returns : tie.Need-returns

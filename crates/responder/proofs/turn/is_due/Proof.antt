@@ -29,7 +29,7 @@ others c Off time e = refl
 others c (Verifying sends id timer) time e = absurd (miss (0 ∷ 2 ∷ 4 ∷ 5 ∷ []) 1 tt (rw e at (c .match .keys3)))
 others c Unique time e = refl
 others c (Defending id qtype qclass timer) time e = absurd (miss (0 ∷ 2 ∷ 4 ∷ 5 ∷ []) 3 tt (rw e at (c .match .keys3)))
-others c Stopped time e = refl
+others c (Stopped until) time e = refl
 others c Shared time e = refl
 
 returns-3 : tie.Need-returns-3

@@ -28,7 +28,7 @@ others c Off e = absurd (miss (1 ∷ 2 ∷ 3 ∷ 5 ∷ []) 0 tt (rw e at (c .mat
 others c (Verifying sends id timer) e = refl
 others c Unique e = refl
 others c (Defending id qtype qclass timer) e = refl
-others c Stopped e = absurd (miss (1 ∷ 2 ∷ 3 ∷ 5 ∷ []) 4 tt (rw e at (c .match .keys3)))
+others c (Stopped until) e = absurd (miss (1 ∷ 2 ∷ 3 ∷ 5 ∷ []) 4 tt (rw e at (c .match .keys3)))
 others c Shared e = refl
 
 returns-3 : tie.Need-returns-3
