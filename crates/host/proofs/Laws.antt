@@ -113,6 +113,17 @@ other-names h i k time s j n =
     (λ p. ap (λ (x : Interface). getD (x .names) j offName .state) (getD-set-same (h .interfaces) i _ absent (leb-false _ _ p))
     ∙ ap (λ (x : Name). x .state) (getD-set-other (interfaceOf h i .names) k j _ offName n))
 
+-- a name that has a place holds its new state
+module _ (h : Host) (i k : ℕ) (inside : i < length (h .interfaces)) (place : k < length (interfaceOf h i .names)) where
+  pub changed-here : (s : NameState) (time : ℕ)
+      → interfaceOf (withState h i k s time) i ≡ record { setting = settingOf h i; names = set (interfaceOf h i .names) k (record { state = s }) }
+  changed-here s time = getD-set-same (h .interfaces) i _ absent inside
+
+  pub changed-name : (s : NameState) (time : ℕ) → stateOf (withState h i k s time) i k ≡ s
+  changed-name s time =
+      ap (λ (x : Interface). getD (x .names) k offName .state) (changed-here s time)
+      ∙ ap (λ (x : Name). x .state) (getD-set-same (interfaceOf h i .names) k _ offName place)
+
 module _ {h : Host} {i k time : ℕ} {out : List ℕ} where
   unchanged : {d : Done} → Does h i k time out d → (t : Report) → d .result ≡ refused t → Unchanged h out d
   unchanged (refuses u) t e = record { host = refl; octets = refl; to = refl }

@@ -6,6 +6,7 @@ pub mod Received
 pub mod ExactlyWhen
 pub mod Started
 pub mod Ticked
+pub mod Stopping
 pub mod Laws
 pub mod Clock
 pub mod ThreeQueries

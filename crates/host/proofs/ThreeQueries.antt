@@ -5,7 +5,6 @@ use mathlib.Core.Logic.{_⊎_}
 use mathlib.Core.List.{List}
 use native.Mathlib.Omega.{arith}
 use lib.ListN.{length, getD, set, take, length-set, length-append}
-use lib.Seq.{getD-set-same}
 use Rattle.octets.specs.Bounds.{ipv4, ipv6}
 use Rattle.octets.specs.Octets.{Octets, put}
 use Rattle.octets.specs.declared.Setting.{Setting}
@@ -26,7 +25,7 @@ use Rattle.host.specs.declared.NameState.the-variants.{Off, Verifying, U
 use Rattle.host.specs.declared.Name.{Name}
 use Rattle.host.specs.declared.Interface.{Interface}
 use Rattle.host.specs.declared.Host.{Host}
-use Rattle.host.proofs.Laws.{other-names}
+use Rattle.host.proofs.Laws.{other-names, changed-here, changed-name}
 use Rattle.host.proofs.Started.{Sends, start-sends}
 use Rattle.host.proofs.Ticked.{tick-asks, tick-settles}
 
@@ -47,25 +46,17 @@ record Checking (h g : Host) (i k id n t : ℕ) : Type 0 where
   lower : (j : ℕ) → j < k → stateOf g i j ≡ stateOf h i j
 
 module _ (h g : Host) (i k : ℕ) (inside : i < length (g .interfaces)) (place : k < length (interfaceOf g i .names)) where
-  here : (s : NameState) (t : ℕ) → interfaceOf (withState g i k s t) i ≡ record { setting = settingOf g i; names = set (interfaceOf g i .names) k (record { state = s }) }
-  here s t = getD-set-same (g .interfaces) i _ absent inside
-
-  stored : (s : NameState) (t : ℕ) → stateOf (withState g i k s t) i k ≡ s
-  stored s t =
-      ap (λ (x : Interface). getD (x .names) k offName .state) (here s t)
-      ∙ ap (λ (x : Name). x .state) (getD-set-same (interfaceOf g i .names) k _ offName place)
-
   checking : (id n t : ℕ) → settingOf g i ≡ settingOf h i → ((j : ℕ) → j < k → stateOf g i j ≡ stateOf h i j)
       → Checking h (withState g i k (Verifying n id (timerFrom (settingOf g i) t)) t) i k id n t
   checking id n t e lower =
       let s : NameState = Verifying n id (timerFrom (settingOf g i) t) in
-      let l = here s t in
+      let l = changed-here g i k inside place s t in
       record {
         interface = omega (arith, length-set (g .interfaces) i (record { setting = settingOf g i; names = set (interfaceOf g i .names) k (record { state = s }) }));
         place = subst (λ (x : Interface). k < length (x .names)) (sym l) (omega (arith, length-set (interfaceOf g i .names) k (record { state = s })));
         setting = ap (λ (x : Interface). x .setting) l ∙ e;
         clock = refl;
-        state = stored s t ∙ ap (λ (x : Setting). Verifying n id (timerFrom x t)) e;
+        state = changed-name g i k inside place s t ∙ ap (λ (x : Setting). Verifying n id (timerFrom x t)) e;
         lower = λ j m. other-names g i k t s j (omega arith) ∙ lower j m;
       }
 
@@ -198,7 +189,7 @@ module _ (h : Host) (table : List ℕ) (i k : ℕ) (s x y z : Given) (o : Octets
         third-time = c .result ∙ ap (query k) len-is;
         same-again = written 3 (y .time) (y .out) _ c (served .second-room) ∙ sym (written 1 (s .time) (s .out) _ a (called .room));
         then-unique = ap (λ (d : Done). d .result) e;
-        state = ap (λ (d : Done). stateOf (d .host) i k) e ∙ stored h g i k (c .after .interface) (c .after .place) Unique (z .time);
+        state = ap (λ (d : Done). stateOf (d .host) i k) e ∙ changed-name g i k (c .after .interface) (c .after .place) Unique (z .time);
       }
 
 -- A name whose start sends a query, and that three ticks serve, sends that query three times, with the same octets, and is then Unique.

@@ -1,9 +1,10 @@
 -- Laws of checks made in order.
 use Prim.Native.Nat.{ℕ}
-use mathlib.Core.Path.{_≡_, refl, subst}
-use mathlib.Core.Bool.{true, false}
+use mathlib.Core.Path.{_≡_, refl, ap, subst}
+use mathlib.Core.Logic.{_≢_}
+use mathlib.Core.Bool.{Bool, true, false}
 use native.Mathlib.Omega.{arith}
-use Rattle.refusal.specs.Numbers.{Report}
+use Rattle.refusal.specs.Numbers.{Report, numberIn}
 use Rattle.refusal.specs.Checks.{Checks, fail, pass, Verdict, refused, passed, verdict, Gives, next, stop, done, Clear}
 
 -- the verdict is what the checks give, and only that
@@ -33,6 +34,17 @@ pub passes : (c : Checks) → Clear c → verdict c ≡ passed
 unfolding verdict
 passes (fail b t r) h = rw (h .0) (passes r (h .1))
 passes pass h = refl
+
+-- a refusal with another number than the first check's comes from those that follow; and a last check that refuses holds
+pub from-later : (b : Bool) (t u : Report) (r : Checks) → numberIn t ≢ numberIn u → verdict (fail b t r) ≡ refused u → (b ≡ false) × (verdict r ≡ refused u)
+unfolding verdict
+from-later true t u r n e = let z : t ≡ u = cc in absurd (n (ap numberIn z))
+from-later false t u r n e = (refl, e)
+
+pub from-last : (b : Bool) (t u : Report) → verdict (fail b t pass) ≡ refused u → b ≡ true
+unfolding verdict
+from-last true t u e = refl
+from-last false t u e = let z : _≡_ {A = ℕ} 0 1 = cc in absurd (omega arith)
 
 -- Checks, and then others. Checks that follow a refusal change nothing.
 infixr 5 _then_

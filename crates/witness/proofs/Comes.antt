@@ -4,7 +4,7 @@ use mathlib.Core.Path.{_≡_, refl, sym, ap, _∙_, subst}
 use mathlib.Core.List.{List, [], _∷_, append-assoc}
 use native.Mathlib.Omega.{arith}
 use lib.ListN.{length, getD, set, take, drop, length-set}
-use lib.Seq.{getD-set-same, getD-set-other, map-set-same}
+use lib.Seq.{getD-set-other, map-set-same}
 use Rattle.octets.specs.Octets.{Octets}
 use Rattle.octets.specs.declared.Endpoint.{Endpoint}
 use Rattle.octets.proofs.Octets.{part-in, length-part}
@@ -28,7 +28,7 @@ use Rattle.host.specs.declared.NameState.{NameState}
 use Rattle.host.specs.declared.Name.{Name}
 use Rattle.host.specs.declared.Interface.{Interface}
 use Rattle.host.specs.declared.Host.{Host}
-use Rattle.host.proofs.Laws.{other-names}
+use Rattle.host.proofs.Laws.{other-names, changed-here, changed-name}
 use Rattle.host.proofs.Sent.{check-fits}
 use Rattle.witness.specs.States.{Place, Refuses, Leaves, Moves, Becomes, Asks, checkOf}
 
@@ -63,17 +63,12 @@ module _ (h : Host) (i k : ℕ) (p : Place h i k) (s : NameState) (time : ℕ) w
   changed = record { setting = settingOf h i; names = set (interfaceOf h i .names) k (record { state = s }) }
 
   here : interfaceOf (withState h i k s time) i ≡ changed
-  here = getD-set-same (h .interfaces) i _ absent (p .interface)
-
-  stored : stateOf (withState h i k s time) i k ≡ s
-  stored =
-      ap (λ (x : Interface). getD (x .names) k offName .state) here
-      ∙ ap (λ (x : Name). x .state) (getD-set-same (interfaceOf h i .names) k _ offName (p .name))
+  here = changed-here h i k (p .interface) (p .name) s time
 
   moves : (r : Result) (to : Endpoint) (octets : List ℕ) → Moves h i k s time (record { host = withState h i k s time; result = r; to = to; octets = octets })
   moves r to octets =
       record {
-        state = stored;
+        state = changed-name h i k (p .interface) (p .name) s time;
         others =
             record {
               interfaces = λ j n. getD-set-other (h .interfaces) i j _ absent n;

@@ -106,7 +106,7 @@ shared-is Off = refl
 shared-is (Verifying sends id timer) = refl
 shared-is Unique = refl
 shared-is (Defending id qtype qclass timer) = refl
-shared-is Stopped = refl
+shared-is (Stopped until) = refl
 shared-is Shared = refl
 
 pub verifying-is : (s : NameState) → is verifying s ≡ isVerifying s
@@ -114,7 +114,7 @@ verifying-is Off = refl
 verifying-is (Verifying sends id timer) = refl
 verifying-is Unique = refl
 verifying-is (Defending id qtype qclass timer) = refl
-verifying-is Stopped = refl
+verifying-is (Stopped until) = refl
 verifying-is Shared = refl
 
 pub reply-plain : (id : ℕ) (c t : Bool) (question : List ℕ) (r : Taken) (ds : List Data) → r .answers ≡ map answerOf ds

@@ -20,7 +20,7 @@ use Rattle.refusal.proofs.Cases.{Exactly, same-report, ends, check, told-by}
 use Rattle.name_table.specs.Kinds.{kindOf, isSharedKind}
 use Rattle.name_table.specs.Check.{Held, Checked, good, bad, checkTable, namesIn, nameIn, isBad, badAt}
 use Rattle.host.specs.Bounds.{sendsInAll}
-use Rattle.host.specs.State.{stateOf, interfaceOf, off, stopped, is}
+use Rattle.host.specs.State.{stateOf, interfaceOf, HasStopped, off, stopped, is}
 use Rattle.host.specs.Outcomes.{refused, isRefused, Done}
 use Rattle.host.specs.Early.{early}
 use Rattle.host.specs.SetUp.{badSetting, badAmong, setUpChecks, setUpBy, setUp}
@@ -29,7 +29,7 @@ use Rattle.host.specs.Tick.{Due, due, none, dueFrom, serve, serveDue, tickIf, t
 use Rattle.host.specs.declared.NameState.{NameState}
 use Rattle.host.specs.declared.NameState.the-variants.{Off, Verifying, Unique, Defending, Stopped, Shared}
 use Rattle.host.specs.declared.Host.{Host}
-use Rattle.host.proofs.Conditions.{not-off, not-stopped}
+use Rattle.host.proofs.Conditions.{not-off, not-stopped, soon-is}
 use Rattle.witness.specs.Refusals.{IsBadSetting, setUpCases, earlyCases, startCases, tickCases}
 
 -- ---- checks and cases
@@ -110,13 +110,13 @@ set-up-refused-exactly table settings time id t =
 
 -- ---- start
 
-idle-is : (s : NameState) → (not (isIdle s) ≡ true) ↔ ((s ≢ Off) × (s ≢ Stopped))
+idle-is : (s : NameState) → (not (isIdle s) ≡ true) ↔ ((s ≢ Off) × (HasStopped s → ⊥))
 idle-is s =
     Iff·trans (not-true _)
     (Iff·trans (neither (is off s) (is stopped s))
     (λ x. (not-off s .0 (x .0), not-stopped s .0 (x .1)), λ x. (not-off s .1 (x .0), not-stopped s .1 (x .1))))
 
--- Start: 1 to 4, 12, 19.
+-- Start: 1 to 4, 12, 19, 21.
 pub start-refused-exactly : (h : Host) (table : List ℕ) (i k time id : ℕ) (out : List ℕ) (t : Report)
     → (start h table i k time id out .result ≡ refused t) ↔ First t (startCases h table i k time out)
 unfolding start
@@ -141,7 +141,8 @@ start-refused-exactly h table i k time id out t =
         early-exactly h table i time out
         (λ names g. check _ 12 (past names g)
         (λ e12. check _ 19 (idle-is (stateOf h i k))
-        (λ e19. ends)))
+        (λ e19. check _ 21 (soon-is (stateOf h i k) time)
+        (λ e21. ends))))
 
 -- ---- tick
 
@@ -164,7 +165,7 @@ tick-refused-exactly h table i time id out t =
     by (Defending own qtype class timer) k = refl
     by Off k = refl
     by Unique k = refl
-    by Stopped k = refl
+    by (Stopped until) k = refl
     by Shared k = refl
 
     accepted : (d : Due) → isRefused (serveDue d h table i time out .result) ≡ false

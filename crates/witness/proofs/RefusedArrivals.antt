@@ -21,7 +21,7 @@ use Rattle.message.specs.declared.QuestionRead.{QuestionRead}
 use Rattle.message.specs.declared.QuestionRead.the-variants.{Good, Bad}
 use Rattle.message.specs.Header.{headerOf}
 use Rattle.message.specs.Question.{questionAt, questionOr, isBadQuestion}
-use Rattle.host.specs.State.{settingOf, stateOf, off, unique, stopped, is}
+use Rattle.host.specs.State.{settingOf, stateOf, HasStopped, off, unique, stopped, is}
 use Rattle.host.specs.Outcomes.{refused, isRefused}
 use Rattle.host.specs.Receive.{Arrival, header, question, found, nameNumber, state, notOurs, awaits, unmatched, badLength, badAddress, receiveChecks, Decision, answer, defend, stop, keep, decision, effect, receiveIf, receive}
 use Rattle.host.specs.declared.NameState.{NameState}
@@ -58,7 +58,7 @@ awaited-is a q Off = waits-is Off (header a .id) (q .qtype) (q .class)
 awaited-is a q (Verifying sends own timer) = waits-is (Verifying sends own timer) (header a .id) (q .qtype) (q .class)
 awaited-is a q Unique = waits-is Unique (header a .id) (q .qtype) (q .class)
 awaited-is a q (Defending own qtype class timer) = waits-is (Defending own qtype class timer) (header a .id) (q .qtype) (q .class)
-awaited-is a q Stopped = waits-is Stopped (header a .id) (q .qtype) (q .class)
+awaited-is a q (Stopped until) = waits-is (Stopped until) (header a .id) (q .qtype) (q .class)
 awaited-is a q Shared = waits-is Shared (header a .id) (q .qtype) (q .class)
 
 module _ (h : Host) (a : Arrival) where
@@ -114,11 +114,11 @@ module _ (h : Host) (a : Arrival) where
         (of-question g r (λ hs q. IsForNone a hs q ⊎ ((k : ℕ) × IsFor a hs q k × (IsAwaited a q (here k) → ⊥))))
 
     module _ (f : isFound (found a) ≡ true) where
-      stopped-is : (is stopped (state h a) ≡ true) ↔ OfQuestion a (λ hs q. (k : ℕ) × IsFor a hs q k × (here k ≡ Stopped))
+      stopped-is : (is stopped (state h a) ≡ true) ↔ OfQuestion a (λ hs q. (k : ℕ) × IsFor a hs q k × HasStopped (here k))
       stopped-is =
-          Iff·trans (is-stopped (state h a), λ e. ap (is stopped) e)
-          (Iff·trans (of-found (found a) (λ k. here k ≡ Stopped) f)
-          (of-question g r (λ hs q. (k : ℕ) × IsFor a hs q k × (here k ≡ Stopped))))
+          Iff·trans (is-stopped (state h a))
+          (Iff·trans (of-found (found a) (λ k. HasStopped (here k)) f)
+          (of-question g r (λ hs q. (k : ℕ) × IsFor a hs q k × HasStopped (here k))))
 
       not-unique-is : (not (is unique (state h a)) ≡ true) ↔ OfQuestion a (λ hs q. (k : ℕ) × IsFor a hs q k × (here k ≢ Unique))
       not-unique-is =

@@ -18,21 +18,22 @@ use Rattle.message.specs.declared.HeaderRead.the-variants.{Good}
 use Rattle.message.specs.Header.{headerOf}
 use Rattle.message.specs.Query.{queryWith}
 use Rattle.message.specs.Reply.{replyHeader}
-use Rattle.host.specs.State.{isOwn, settingOf, stateOf, off, unique, stopped, shared, verifying, is, timerFrom, dueAt}
+use Rattle.host.specs.State.{isOwn, settingOf, stateOf, HasStopped, off, unique, stopped, shared, verifying, is, timerFrom, dueAt}
 use Rattle.host.specs.Outcomes.{Done, shared as sharedName, kept, stopped as stoppedName}
 use Rattle.host.specs.Start.{start}
 use Rattle.host.specs.Receive.{Arrival, state, notOurs, badNotification, receive}
 use Rattle.host.specs.ExactlyWhen.{CalledWell, QueryArrives, ResponseArrives, AsksFor, stateHere, WaitsFor, TakenBy, MatchArrives, RepliesWhen}
-use Rattle.host.specs.Served.{StartsWhen}
+use Rattle.host.specs.Served.{MayStart, StartsWhen}
 use Rattle.host.specs.declared.NameState.{NameState}
 use Rattle.host.specs.declared.NameState.the-variants.{Off, Verifying, Unique, Defending, Stopped, Shared}
 use Rattle.host.specs.declared.Host.{Host}
 use Rattle.host.proofs.Arrives.{receive-by, is-found, state-is, query-gives}
 use Rattle.host.proofs.Conditions.{not-off, not-stopped, interval-is}
-use Rattle.host.proofs.Started.{start-asks, start-shares, is-busy}
+use Rattle.host.proofs.Started.{start-asks, start-shares, is-busy, is-too-soon}
+use Rattle.host.proofs.Stopping.{until-exactly}
 use Rattle.host.proofs.Received.{replies, defends, stops-it, keeps-it, not-ours, has-stopped, not-awaited, own-address}
 use Rattle.host.proofs.Sent.{reply-read}
-use Rattle.witness.specs.States.{Interval, Ours, Place, Refuses, Replies, Becomes, Asks, checkOf, UniqueStarts, SharedStarts, ClearQuery, Notification, OwnNotification, FromBelow, Stops, Keeps, Response}
+use Rattle.witness.specs.States.{Interval, Ours, Place, Refuses, Replies, Becomes, Asks, checkOf, TriedAgain, UniqueStarts, SharedStarts, ClearQuery, Notification, OwnNotification, FromBelow, Stops, Keeps, Response}
 use Rattle.witness.proofs.Comes.{question-out, refuses, leaves, becomes, asks, asks-check}
 use Rattle.witness.proofs.Ours.{ours-is, is-below, from-below}
 
@@ -55,40 +56,51 @@ module _ (h : Host) (table : List ℕ) (names : List Held) (i k time id : ℕ) (
         not-stopped = not-stopped _ .0 (ap (is stopped) e ∙ p);
       }))
 
-  idle : (kind : ℕ) → getD names k noName .kind ≡ kind → (stateOf h i k ≡ Off) ⊎ (stateOf h i k ≡ Stopped) → StartsWhen h table i k time out kind
-  idle kind e s = record { names = names; called = called; in-table = in-table; idle = s; kind-is = e }
+  may : (kind : ℕ) → getD names k noName .kind ≡ kind → MayStart (stateOf h i k) time → StartsWhen h table i k time out kind
+  may kind e s = record { names = names; called = called; in-table = in-table; may-start = s; kind-is = e }
 
-  -- A unique name: Off and Stopped can be started, the other four are 19.
+  -- a stopped name
+  again : {taken : Type 0} (until : ℕ) → stateOf h i k ≡ Stopped until → (MayStart (stateOf h i k) time → taken)
+      → TriedAgain h out until time (start h table i k time id out) taken
+  again until e f =
+      record {
+        too-soon = λ l. refuses h out 21 _
+            (is-too-soon h table i k time id out
+            (record { names = names; called = called; in-table = in-table; until = until; stopped = e; before = l }));
+        then = λ l. f (inr (until, e, l));
+      }
+
+  -- A unique name: Off can be started, and Stopped from the time on that it remembers; the other four are 19.
   pub unique-starts : (n : ℕ) → Octets table → Place h i k → Interval h i n → getD names k noName .kind ≡ 1
       → UniqueStarts h i k n time id (getD names k noName .octets) out (stateOf h i k) (start h table i k time id out)
   unique-starts n o p v e = go (stateOf h i k) refl
     where
-      starts : (stateOf h i k ≡ Off) ⊎ (stateOf h i k ≡ Stopped) → Asks h i k (Verifying 1 id (dueAt (time + n))) time (checkOf id name) out (start h table i k time id out)
+      starts : MayStart (stateOf h i k) time → Asks h i k (Verifying 1 id (dueAt (time + n))) time (checkOf id name) out (start h table i k time id out)
       starts s =
           subst (λ (m : ℕ). Asks h i k (Verifying 1 id (dueAt (time + m))) time (checkOf id name) out (start h table i k time id out)) (interval-is _ n v)
-          (asks-check h i k p _ time id table names out _ o called in-table (start-asks h table i k time id out (idle 1 e s)))
+          (asks-check h i k p _ time id table names out _ o called in-table (start-asks h table i k time id out (may 1 e s)))
 
       go : (s : NameState) → stateOf h i k ≡ s → UniqueStarts h i k n time id name out s (start h table i k time id out)
       go Off q = starts (inl q)
       go (Verifying sends own timer) q = busy _ q refl refl
       go Unique q = busy _ q refl refl
       go (Defending own qtype class timer) q = busy _ q refl refl
-      go Stopped q = starts (inr q)
+      go (Stopped until) q = again until q starts
       go Shared q = busy _ q refl refl
 
   -- A shared name likewise: nothing is sent.
   pub shared-starts : Place h i k → getD names k noName .kind ≡ 2 → SharedStarts h i k time out (stateOf h i k) (start h table i k time id out)
   shared-starts p e = go (stateOf h i k) refl
     where
-      starts : (stateOf h i k ≡ Off) ⊎ (stateOf h i k ≡ Stopped) → Becomes h i k Shared time out (sharedName k) (start h table i k time id out)
-      starts s = becomes h i k p Shared time out (sharedName k) _ (start-shares h table i k time id out (idle 2 e s))
+      starts : MayStart (stateOf h i k) time → Becomes h i k Shared time out (sharedName k) (start h table i k time id out)
+      starts s = becomes h i k p Shared time out (sharedName k) _ (start-shares h table i k time id out (may 2 e s))
 
       go : (s : NameState) → stateOf h i k ≡ s → SharedStarts h i k time out s (start h table i k time id out)
       go Off q = starts (inl q)
       go (Verifying sends own timer) q = busy _ q refl refl
       go Unique q = busy _ q refl refl
       go (Defending own qtype class timer) q = busy _ q refl refl
-      go Stopped q = starts (inr q)
+      go (Stopped until) q = again until q starts
       go Shared q = busy _ q refl refl
 
 -- ---- queries
@@ -100,7 +112,7 @@ module _ (h : Host) (a : Arrival) (names : List Held) (q : Question) (k : ℕ) (
   refused-12 : stateHere h a k ≡ Off → Refuses h (a .out) 12 (receive h a)
   refused-12 e = refuses h (a .out) 12 _ (not-ours h a (record { names = names; q = q; query = w; none = inr (k, f, e) }))
 
-  refused-13 : stateHere h a k ≡ Stopped → Refuses h (a .out) 13 (receive h a)
+  refused-13 : HasStopped (stateHere h a k) → Refuses h (a .out) 13 (receive h a)
   refused-13 e = refuses h (a .out) 13 _ (has-stopped h a (record { names = names; q = q; k = k; query = w; name = f; stopped = e }))
 
   -- 14: C set, and the state is not Unique or the source is ours
@@ -149,7 +161,7 @@ module _ (h : Host) (a : Arrival) (names : List Held) (q : Question) (k : ℕ) (
       go (Verifying sends own timer) e = answers _ e refl refl
       go Unique e = answers _ e refl refl
       go (Defending own qtype class timer) e = answers _ e refl refl
-      go Stopped e = refused-13 e
+      go (Stopped until) e = refused-13 (until, e)
       go Shared e = answers _ e refl refl
 
   -- C set, from none of our addresses: taken while Unique, and only then.
@@ -170,7 +182,7 @@ module _ (h : Host) (a : Arrival) (names : List Held) (q : Question) (k : ℕ) (
       go (Verifying sends own timer) e = refused-14 _ e refl refl c refl
       go Unique e = defended e
       go (Defending own qtype class timer) e = refused-14 _ e refl refl c refl
-      go Stopped e = refused-13 e
+      go (Stopped until) e = refused-13 (until, e)
       go Shared e = refused-14 _ e refl refl c refl
 
   -- C set, from one of our addresses: never taken.
@@ -183,7 +195,7 @@ module _ (h : Host) (a : Arrival) (names : List Held) (q : Question) (k : ℕ) (
       go (Verifying sends own timer) e = refused-14 _ e refl refl c refl
       go Unique e = refused-14 _ e refl refl c (ours-is h _ .1 o)
       go (Defending own qtype class timer) e = refused-14 _ e refl refl c refl
-      go Stopped e = refused-13 e
+      go (Stopped until) e = refused-13 (until, e)
       go Shared e = refused-14 _ e refl refl c refl
 
 -- ---- responses
@@ -231,17 +243,22 @@ module _ (h : Host) (a : Arrival) (names : List Held) (q : Question) (k : ℕ) (
     abbrev taken-in : NameState → Type 0
     taken-in y = TakenBy y (headerOf (a .datagram) .tentative) (a .from .address) (addressOf (settingOf h (a .interface)))
 
-    stops : taken-in x → Stops h a k (receive h a)
-    stops t =
-        becomes h (a .interface) k p Stopped (a .time) (a .out) (stoppedName k) _
-        (stops-it h a k (record { names = names; q = q; match = match; taken = subst taken-in (sym e) t }))
+    stops : Octets (a .datagram) → taken-in x → Stops h a q k (receive h a)
+    stops od t =
+        record {
+          until = _;
+          until-is = until-exactly (a .time) (headerOf (a .datagram) .answers) (a .datagram) (q .end) od _ .0 refl;
+          becomes =
+              becomes h (a .interface) k p _ (a .time) (a .out) (stoppedName k) _
+              (stops-it h a k (record { names = names; q = q; match = match; taken = subst taken-in (sym e) t }));
+        }
 
     keeps : (taken-in x → ⊥) → Keeps h a k (receive h a)
     keeps n = leaves h (a .time) (a .out) (kept k) _ (keeps-it h a k (record { names = names; q = q; match = match; not-taken = λ t. n (subst taken-in e t) }))
 
   -- What is awaited is stopped or kept; four states wait for nothing, and are 15.
-  pub response : Place h (a .interface) k → Response h a q k (stateHere h a k) (receive h a)
-  response p = go (stateHere h a k) refl
+  pub response : Octets (a .datagram) → Place h (a .interface) k → Response h a q k (stateHere h a k) (receive h a)
+  response od p = go (stateHere h a k) refl
     where
       below : FromBelow h a → belowAddress (a .from .address) (addressOf (settingOf h (a .interface))) ≡ true
       below = is-below h a (w .arrives .from-family)
@@ -259,8 +276,8 @@ module _ (h : Host) (a : Arrival) (names : List Held) (q : Question) (k : ℕ) (
             awaited =
                 λ m o.
                 record {
-                  t-clear = λ t. stops p (elsewhere o) _ e m (inl t);
-                  t-set-below = λ t b. stops p (elsewhere o) _ e m (inr (below b));
+                  t-clear = λ t. stops p (elsewhere o) _ e m od (inl t);
+                  t-set-below = λ t b. stops p (elsewhere o) _ e m od (inr (below b));
                   t-set-else = λ t n. keeps p (elsewhere o) _ e m (⊎-elim (λ c. never t c) (not-below n));
                 };
             own = λ m o. refused-16 _ e m o;
@@ -270,9 +287,9 @@ module _ (h : Host) (a : Arrival) (names : List Held) (q : Question) (k : ℕ) (
       go (Defending own qtype class timer) e =
           record {
             awaited =
-                λ m o. record { below = λ b. stops p (elsewhere o) _ e m (below b); else = λ n. keeps p (elsewhere o) _ e m (not-below n) };
+                λ m o. record { below = λ b. stops p (elsewhere o) _ e m od (below b); else = λ n. keeps p (elsewhere o) _ e m (not-below n) };
             own = λ m o. refused-16 _ e m o;
             else = λ n. refused-15 _ e n;
           }
-      go Stopped e = refused-15 _ e (λ z. z)
+      go (Stopped until) e = refused-15 _ e (λ z. z)
       go Shared e = refused-15 _ e (λ z. z)

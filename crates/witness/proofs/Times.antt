@@ -25,7 +25,7 @@ use Rattle.host.specs.Laws.{Accepted}
 use Rattle.host.specs.Tick.{tick}
 use Rattle.host.specs.Receive.{Arrival, receive}
 use Rattle.host.specs.ExactlyWhen.{CalledWell, QueryArrives, AsksFor, stateHere}
-use Rattle.host.specs.Served.{ReadyWhen, DueBy, ServesWhen, HasAsked}
+use Rattle.host.specs.Served.{ReadyWhen, MayStart, DueBy, ServesWhen, HasAsked}
 use Rattle.host.specs.declared.NameState.{NameState}
 use Rattle.host.specs.declared.NameState.the-variants.{Off, Verifying, Unique, Defending, Stopped, Shared}
 use Rattle.host.specs.declared.Host.{Host}
@@ -56,7 +56,7 @@ due-by Off time = Iff·rfl
 due-by (Verifying sends id timer) time = Iff·rfl
 due-by Unique time = Iff·rfl
 due-by (Defending id qtype class timer) time = Iff·rfl
-due-by Stopped time = Iff·rfl
+due-by (Stopped until) time = Iff·rfl
 due-by Shared time = Iff·rfl
 
 module _ (h : Host) (table : List ℕ) (names : List Held) (i k time id : ℕ) (out : List ℕ) (called : CalledWell h table i time out names) where
@@ -119,7 +119,7 @@ module _ (h : Host) (table : List ℕ) (names : List Held) (i k time id : ℕ) (
             }
         go Unique e = idle _ e (λ z. z)
         go (Defending own qtype class timer) e = record { before = λ l. idle _ e (λ w. omega arith); then = λ w. over _ e w tt }
-        go Stopped e = idle _ e (λ z. z)
+        go (Stopped until) e = idle _ e (λ z. z)
         go Shared e = idle _ e (λ z. z)
 
 -- ---- after a call that has left the k-th name in a state
@@ -158,9 +158,9 @@ due-exactly h table names i k n sent s d o v m in-table (defending own qtype cla
           subst (Serves k) (sym (r .result)) settles;
     }
 
--- A start: Off or Stopped before, kind 1.
+-- A start that is taken, kind 1.
 pub start-due : (h : Host) (table : List ℕ) (names : List Held) (i k n time id : ℕ) (out : List ℕ) → Octets table → CalledWell h table i time out names → k < length names
-    → Place h i k → Interval h i n → getD names k noName .kind ≡ 1 → (stateOf h i k ≡ Off) ⊎ (stateOf h i k ≡ Stopped)
+    → Place h i k → Interval h i n → getD names k noName .kind ≡ 1 → MayStart (stateOf h i k) time
     → DueExactly table names i k n time (start h table i k time id out)
 start-due h table names i k n time id out o called in-table p v kind idle =
     due-exactly h table names i k n time _ _ o v (sends idle .moves) in-table (verifying 1 id)
@@ -170,8 +170,8 @@ start-due h table names i k n time id out o called in-table p v kind idle =
         subst (λ (x : NameState). UniqueStarts h i k n time id (getD names k noName .octets) out x (start h table i k time id out)) e
         (unique-starts h table names i k time id out called in-table n o p v kind)
 
-    sends : (stateOf h i k ≡ Off) ⊎ (stateOf h i k ≡ Stopped) → Asks h i k (Verifying 1 id (dueAt (time + n))) time (checkOf id (getD names k noName .octets)) out (start h table i k time id out)
-    sends = ⊎-elim (row Off) (row Stopped)
+    sends : MayStart (stateOf h i k) time → Asks h i k (Verifying 1 id (dueAt (time + n))) time (checkOf id (getD names k noName .octets)) out (start h table i k time id out)
+    sends = ⊎-elim (row Off) (λ t. row (Stopped (t .0)) (t .1) .then (t .2))
 
 -- A tick that repeats the query.
 pub again-due : (h : Host) (table : List ℕ) (names : List Held) (i k n time id : ℕ) (out : List ℕ) (sends own due : ℕ) → Octets table → CalledWell h table i time out names

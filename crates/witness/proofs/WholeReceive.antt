@@ -1,6 +1,6 @@
 -- Receive is the plain one of specs/Whole.antt, and nothing else is. It leaves a host with four interfaces of eight names.
 use Prim.Native.Nat.{ℕ, _+_, _-_, _<_}
-use mathlib.Core.Path.{_≡_, refl, ap, subst}
+use mathlib.Core.Path.{_≡_, refl, sym, ap, _∙_, subst}
 use mathlib.Core.List.{List, [], _∷_}
 use mathlib.Core.Bool.{true, false, not}
 use native.Mathlib.Omega.{arith}
@@ -21,7 +21,7 @@ use Rattle.message.specs.Header.{headerOf}
 use Rattle.message.specs.Question.{questionOr}
 use Rattle.message.specs.Query.{queryWith}
 use Rattle.host.specs.State.{stateOf, settingOf, off, unique, is, dueAt}
-use Rattle.host.specs.Outcomes.{Done}
+use Rattle.host.specs.Outcomes.{Done, stopped}
 use Rattle.host.specs.Laws.{Accepted}
 use Rattle.host.specs.Receive.{Arrival, header, question, found, nameNumber, state, fromUs, awaits, queryChecks, responseChecks, receiveChecks, receive}
 use Rattle.host.specs.ExactlyWhen.{ArrivesWell, RepliesWhen}
@@ -32,9 +32,10 @@ use Rattle.host.proofs.Accepted.{receive-checked}
 use Rattle.host.proofs.Arrives.{after-11, query-is, response-is}
 use Rattle.host.proofs.Conditions.{found-at, not-off, not-stopped, has-interval}
 use Rattle.host.proofs.Laws.{receive-refused}
+use Rattle.host.proofs.Stopping.{until-exactly}
 use Rattle.witness.specs.Refusals.{receiveCases}
 use Rattle.witness.specs.Replies.{WholeReply, ReplyFrom}
-use Rattle.witness.specs.States.{Interval, Ours, Place, Asks, Notification, FromBelow, Response}
+use Rattle.witness.specs.States.{Interval, Ours, Place, Becomes, Asks, Notification, FromBelow, Stops, Response}
 use Rattle.witness.specs.Whole.{Full, ForName, Heard, PlainReceive}
 use Rattle.witness.proofs.RefusedArrivals.{awaited-is, receive-refused-exactly}
 use Rattle.witness.proofs.Replies.{reply-whole}
@@ -154,29 +155,29 @@ module _ (h : Host) (a : Arrival) where
         go (Verifying sends own timer) r = not-refused h (a .out) 14 done x r
         go Unique r = r
         go (Defending own qtype class timer) r = not-refused h (a .out) 14 done x r
-        go Stopped r = not-refused h (a .out) 13 done x r
+        go (Stopped until) r = not-refused h (a .out) 13 done x r
         go Shared r = not-refused h (a .out) 14 done x r
 
     hears : Accepted done → headerOf (a .datagram) .response ≡ true → (hs : List Held) (q : Question) (k : ℕ) → ForName a hs q k
-        → Heard h a k (stateOf h (a .interface) k) done
+        → Heard h a q k (stateOf h (a .interface) k) done
     hears x qr hs q k f =
-        found-one hs q k f (λ p j. Heard h a j (stateOf h (a .interface) j) done)
+        found-one hs q k f (λ p j. Heard h a p j (stateOf h (a .interface) j) done)
         (let w = response-is h a c qr in
         let m = response-name c qr in
-        go (state h a) (awaited c qr) (response h a names (question a) (nameNumber a) w (m .name) (place (w .arrives .called .interface) m)))
+        go (state h a) (awaited c qr) (response h a names (question a) (nameNumber a) w (m .name) od (place (w .arrives .called .interface) m)))
       where
         c : Clear (receiveChecks h a)
         c = receive-checked h a x
 
         go : (s : NameState) → awaits s (header a .id) (question a .qtype) (question a .class) ≡ true
-            → Response h a (question a) (nameNumber a) s done → Heard h a (nameNumber a) s done
+            → Response h a (question a) (nameNumber a) s done → Heard h a (question a) (nameNumber a) s done
         go Off t r = never t refl
         go (Verifying sends own timer) t r =
             r .awaited (awaited-is a (question a) (Verifying sends own timer) .0 t) (elsewhere c qr)
         go Unique t r = never t refl
         go (Defending own qtype class timer) t r =
             r .awaited (awaited-is a (question a) (Defending own qtype class timer) .0 t) (elsewhere c qr)
-        go Stopped t r = never t refl
+        go (Stopped until) t r = never t refl
         go Shared t r = never t refl
 
     -- What receive gives is plain,
@@ -207,35 +208,45 @@ below h a names q w f g =
     (λ t. f (from-below h a (w .from-family) (w .called .used) t))
     (λ t. g (λ b. never (is-below h a (w .from-family) b) t))
 
+-- a name that stops, which is told until when in one way
+stops-one : (h : Host) (a : Arrival) (q : Question) (k : ℕ) → Octets (a .datagram) → (d e : Done) → Stops h a q k d → Stops h a q k e → d ≡ e
+stops-one h a q k od d e v u =
+    becomes-one _ _ _ _ _ _ _ d e (v .becomes) (subst (λ (t : ℕ). Becomes h (a .interface) k (Stopped t) (a .time) (a .out) (stopped k) e) one (u .becomes))
+  where
+    one : u .until ≡ v .until
+    one =
+        until-exactly (a .time) (headerOf (a .datagram) .answers) (a .datagram) (q .end) od (u .until) .1 (u .until-is)
+        ∙ sym (until-exactly (a .time) (headerOf (a .datagram) .answers) (a .datagram) (q .end) od (v .until) .1 (v .until-is))
+
 -- a response
 heard-one : (h : Host) (a : Arrival) (names : List Held) (q : Question) (k : ℕ) → ArrivesWell h a names q → (s : NameState) (d e : Done)
-    → Heard h a k s d → Heard h a k s e → d ≡ e
-heard-one h a names q k w Off d e v u = absurd v
-heard-one h a names q k w (Verifying sends own timer) d e v u =
+    → Octets (a .datagram) → Heard h a q k s d → Heard h a q k s e → d ≡ e
+heard-one h a names q k w Off d e od v u = absurd v
+heard-one h a names q k w (Verifying sends own timer) d e od v u =
     split (headerOf (a .datagram) .tentative)
     (λ t.
-    below h a names q w (λ b. becomes-one _ _ _ _ _ _ _ d e (v .t-set-below t b) (u .t-set-below t b))
+    below h a names q w (λ b. stops-one h a q k od d e (v .t-set-below t b) (u .t-set-below t b))
     (λ n. leaves-one _ _ _ _ d e (v .t-set-else t n) (u .t-set-else t n)))
-    (λ t. becomes-one _ _ _ _ _ _ _ d e (v .t-clear t) (u .t-clear t))
-heard-one h a names q k w Unique d e v u = absurd v
-heard-one h a names q k w (Defending own qtype class timer) d e v u =
-    below h a names q w (λ b. becomes-one _ _ _ _ _ _ _ d e (v .below b) (u .below b)) (λ n. leaves-one _ _ _ _ d e (v .else n) (u .else n))
-heard-one h a names q k w Stopped d e v u = absurd v
-heard-one h a names q k w Shared d e v u = absurd v
+    (λ t. stops-one h a q k od d e (v .t-clear t) (u .t-clear t))
+heard-one h a names q k w Unique d e od v u = absurd v
+heard-one h a names q k w (Defending own qtype class timer) d e od v u =
+    below h a names q w (λ b. stops-one h a q k od d e (v .below b) (u .below b)) (λ n. leaves-one _ _ _ _ d e (v .else n) (u .else n))
+heard-one h a names q k w (Stopped until) d e od v u = absurd v
+heard-one h a names q k w Shared d e od v u = absurd v
 
 heard-full : (h : Host) (a : Arrival) (names : List Held) (q : Question) (k : ℕ) → ArrivesWell h a names q → (s : NameState) (d : Done)
-    → Heard h a k s d → Full h → Full (d .host)
+    → Heard h a q k s d → Full h → Full (d .host)
 heard-full h a names q k w Off d v f = absurd v
 heard-full h a names q k w (Verifying sends own timer) d v f =
     split (headerOf (a .datagram) .tentative)
     (λ t.
-    below h a names q w (λ b. moves-full h (a .interface) k _ (a .time) d f (v .t-set-below t b .moves))
+    below h a names q w (λ b. moves-full h (a .interface) k _ (a .time) d f (v .t-set-below t b .becomes .moves))
     (λ n. same-full h (d .host) f (v .t-set-else t n .states)))
-    (λ t. moves-full h (a .interface) k _ (a .time) d f (v .t-clear t .moves))
+    (λ t. moves-full h (a .interface) k _ (a .time) d f (v .t-clear t .becomes .moves))
 heard-full h a names q k w Unique d v f = absurd v
 heard-full h a names q k w (Defending own qtype class timer) d v f =
-    below h a names q w (λ b. moves-full h (a .interface) k _ (a .time) d f (v .below b .moves)) (λ n. same-full h (d .host) f (v .else n .states))
-heard-full h a names q k w Stopped d v f = absurd v
+    below h a names q w (λ b. moves-full h (a .interface) k _ (a .time) d f (v .below b .becomes .moves)) (λ n. same-full h (d .host) f (v .else n .states))
+heard-full h a names q k w (Stopped until) d v f = absurd v
 heard-full h a names q k w Shared d v f = absurd v
 
 -- and nothing else is.
@@ -249,7 +260,7 @@ plain-is-receive h a ot od full d p =
         split (headerOf (a .datagram) .response)
         (λ qr.
         let f = response-name h a c qr in
-        heard-one h a (names h a) (question a) (nameNumber a) (response-is h a c qr .arrives) (state h a) d (receive h a)
+        heard-one h a (names h a) (question a) (nameNumber a) (response-is h a c qr .arrives) (state h a) d (receive h a) od
         (p .response x qr (names h a) (question a) (nameNumber a) f) (hears h a ot od full y qr (names h a) (question a) (nameNumber a) f))
         (λ qr.
         let f = query-name h a c qr in

@@ -5,7 +5,9 @@ use mathlib.Core.Logic.{_⊎_, inl, inr, ⊎-elim}
 use mathlib.Core.List.{List, [], _∷_}
 use native.Mathlib.Omega.{arith}
 use lib.ListN.{length, getD}
-use borrow.Author.Tests.{leb-false}
+use lib.Dec.{ltb}
+use borrow.Author.Tests.{ltb-true, ltb-false, leb-false}
+use Rattle.octets.proofs.Tests.{split}
 use Rattle.octets.specs.Octets.{Octets}
 use Rattle.octets.specs.PlainAddresses.{nothing}
 use Rattle.octets.specs.declared.Setting.{Setting}
@@ -29,7 +31,7 @@ use Rattle.host.proofs.Accepted.{start-checked}
 use Rattle.host.proofs.Conditions.{has-interval}
 use Rattle.host.proofs.Laws.{set-up-refused, start-refused}
 use Rattle.witness.specs.Refusals.{startCases}
-use Rattle.witness.specs.States.{Interval, Place, Becomes, Asks, checkOf, hostOf, UniqueStarts, SharedStarts}
+use Rattle.witness.specs.States.{Interval, Place, Becomes, Asks, checkOf, hostOf, TriedAgain, UniqueStarts, SharedStarts}
 use Rattle.witness.specs.Whole.{Full, PlainSetUp, PlainStart}
 use Rattle.witness.proofs.Refusals.{set-up-refused-exactly, start-refused-exactly}
 use Rattle.witness.proofs.States.{unique-starts, shared-starts}
@@ -98,14 +100,19 @@ module _ (h : Host) (table : List ℕ) (i k time id : ℕ) (out : List ℕ) wher
   names = namesIn (checkTable table)
 
   good-names : Accepted done → checkTable table ≡ good names
-  good-names a = called-is h table i time out (nameChecks h table i k) (start-checked h table i k time id out a) .good-table
+  good-names a = called-is h table i time out (nameChecks h table i k time) (start-checked h table i k time id out a) .good-table
 
   -- what an accepted start has been given
   begun : Accepted done → (names : List Held) → checkTable table ≡ good names → CalledWell h table i time out names × (k < length names)
   begun a names g =
       let c = start-checked h table i k time id out a in
       subst (λ (hs : List Held). CalledWell h table i time out hs × (k < length hs)) (ap namesIn g)
-      (called-is h table i time out (nameChecks h table i k) c, leb-false _ _ (c .1 .1 .1 .1 .0))
+      (called-is h table i time out (nameChecks h table i k time) c, leb-false _ _ (c .1 .1 .1 .1 .0))
+
+  -- a stopped name whose start is accepted is not too soon
+  again : {taken : Type 0} (until : ℕ) → Accepted done → TriedAgain h out until time done taken → taken
+  again until a r =
+      split (ltb time until) (λ t. not-refused h out 21 done a (r .too-soon (ltb-true _ _ t))) (λ t. r .then (ltb-false _ _ t))
 
   module _ (o : Octets table) (f : Full h) where
     place : Accepted done → (names : List Held) → checkTable table ≡ good names → Place h i k
@@ -125,7 +132,7 @@ module _ (h : Host) (table : List ℕ) (i k time id : ℕ) (out : List ℕ) wher
         go (Verifying x own timer) r = not-refused h out 19 done a r
         go Unique r = not-refused h out 19 done a r
         go (Defending own qtype class timer) r = not-refused h out 19 done a r
-        go Stopped r = r
+        go (Stopped until) r = again until a r
         go Shared r = not-refused h out 19 done a r
 
     shares : Accepted done → (names : List Held) → checkTable table ≡ good names → getD names k noName .kind ≡ 2
@@ -139,7 +146,7 @@ module _ (h : Host) (table : List ℕ) (i k time id : ℕ) (out : List ℕ) wher
         go (Verifying x own timer) r = not-refused h out 19 done a r
         go Unique r = not-refused h out 19 done a r
         go (Defending own qtype class timer) r = not-refused h out 19 done a r
-        go Stopped r = r
+        go (Stopped until) r = again until a r
         go Shared r = not-refused h out 19 done a r
 
     -- What start gives is plain,

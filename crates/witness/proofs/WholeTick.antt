@@ -68,7 +68,7 @@ ticks-one h i k m n time name out (Verifying sends id timer) d e w v u =
     (λ t. becomes-one _ _ _ _ _ _ _ d e (v .then w (ltb-false sends 3 t)) (u .then w (ltb-false sends 3 t)))
 ticks-one h i k m n time name out Unique d e w v u = absurd w
 ticks-one h i k m n time name out (Defending id qtype class timer) d e w v u = becomes-one _ _ _ _ _ _ _ d e (v .then w) (u .then w)
-ticks-one h i k m n time name out Stopped d e w v u = absurd w
+ticks-one h i k m n time name out (Stopped until) d e w v u = absurd w
 ticks-one h i k m n time name out Shared d e w v u = absurd w
 
 ticks-full : (h : Host) (i k m n time : ℕ) (name out : List ℕ) (s : NameState) (d : Done) → IsDue s time → Ticks h i k m n time name out s d → Full h
@@ -80,7 +80,7 @@ ticks-full h i k m n time name out (Verifying sends id timer) d w v f =
     (λ t. moves-full h i k _ time d f (v .then w (ltb-false sends 3 t) .moves))
 ticks-full h i k m n time name out Unique d w v f = absurd w
 ticks-full h i k m n time name out (Defending id qtype class timer) d w v f = moves-full h i k _ time d f (v .then w .moves)
-ticks-full h i k m n time name out Stopped d w v f = absurd w
+ticks-full h i k m n time name out (Stopped until) d w v f = absurd w
 ticks-full h i k m n time name out Shared d w v f = absurd w
 
 module _ (h : Host) (table : List ℕ) (i time id : ℕ) (out : List ℕ) where

@@ -17,7 +17,7 @@ use Rattle.message.specs.declared.Question.{Question}
 use Rattle.message.specs.declared.QuestionRead.the-variants.{Good, Bad}
 use Rattle.message.specs.Header.{headerOf}
 use Rattle.message.specs.Question.{questionAt}
-use Rattle.host.specs.State.{settingOf, stateOf}
+use Rattle.host.specs.State.{settingOf, stateOf, HasStopped}
 use Rattle.host.specs.Receive.{Arrival}
 use Rattle.host.specs.declared.NameState.{NameState}
 use Rattle.host.specs.declared.NameState.the-variants.{Off, Verifying, Unique, Defending, Stopped, Shared}
@@ -49,12 +49,13 @@ earlyCases h table i time out rest =
     ∷ case 4 ((281474976710655 < time) ⊎ (time < h .clock))
     ∷ rest
 
--- Start of the k-th name: 1 to 4, 12, 19.
+-- Start of the k-th name: 1 to 4, 12, 19, and of document 02 21.
 abbrev pub startCases : Host → List ℕ → ℕ → ℕ → ℕ → List ℕ → List Case
 startCases h table i k time out =
     earlyCases h table i time out
     (case 12 ((names : List Held) × (checkTable table ≡ good names) × (length names ≤ k))
-    ∷ case 19 ((stateOf h i k ≢ Off) × (stateOf h i k ≢ Stopped))
+    ∷ case 19 ((stateOf h i k ≢ Off) × (HasStopped (stateOf h i k) → ⊥))
+    ∷ case 21 ((until : ℕ) × (stateOf h i k ≡ Stopped until) × (time < until))
     ∷ [])
 
 -- Tick: 1 to 4.
@@ -96,7 +97,7 @@ IsAwaited a q Off = ⊥
 IsAwaited a q (Verifying sends own timer) = Matches a q own 255 1
 IsAwaited a q Unique = ⊥
 IsAwaited a q (Defending own qtype class timer) = Matches a q own qtype class
-IsAwaited a q Stopped = ⊥
+IsAwaited a q (Stopped until) = ⊥
 IsAwaited a q Shared = ⊥
 
 -- A query: 1 to 7, 9 to 14.
@@ -110,7 +111,7 @@ queryCases h a =
     ∷ case 10 (questionAt (a .datagram) 12 ≡ Bad)
     ∷ case 11 (OfQuestion a (λ names q. (q .class ≢ 1) × (q .class ≢ 255)))
     ∷ case 12 (OfQuestion a (λ names q. IsForNone a names q ⊎ ((k : ℕ) × IsFor a names q k × (stateOf h (a .interface) k ≡ Off))))
-    ∷ case 13 (OfQuestion a (λ names q. (k : ℕ) × IsFor a names q k × (stateOf h (a .interface) k ≡ Stopped)))
+    ∷ case 13 (OfQuestion a (λ names q. (k : ℕ) × IsFor a names q k × HasStopped (stateOf h (a .interface) k)))
     ∷ case 14 (IsBadNotification h a)
     ∷ [])
 

@@ -76,14 +76,14 @@ isShared Off = false
 isShared (Verifying sends id timer) = false
 isShared Unique = false
 isShared (Defending id qtype qclass timer) = false
-isShared Stopped = false
+isShared (Stopped until) = false
 
 abbrev pub isVerifying : NameState → Bool
 isVerifying (Verifying sends id timer) = true
 isVerifying Off = false
 isVerifying Unique = false
 isVerifying (Defending id qtype qclass timer) = false
-isVerifying Stopped = false
+isVerifying (Stopped until) = false
 isVerifying Shared = false
 
 -- QR is 128; C, 4, is set exactly if the state is Shared; TC, 2, exactly if a record is left out; T, 1, exactly if it is Verifying

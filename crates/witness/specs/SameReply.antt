@@ -10,7 +10,7 @@ use Rattle.names.specs.Names.{Labels}
 use Rattle.name_table.specs.Entries.{NameKind, Data, Entry, resource}
 use Rattle.message.specs.declared.Question.{Question}
 use Rattle.host.specs.Receive.{Arrival}
-use Rattle.host.specs.State.{settingOf, stateOf}
+use Rattle.host.specs.State.{settingOf, stateOf, HasStopped}
 use Rattle.host.specs.declared.Host.{Host}
 use Rattle.host.specs.declared.NameState.{NameState}
 use Rattle.host.specs.declared.NameState.the-variants.{Off, Stopped}
@@ -76,7 +76,7 @@ pub record AlikeInterface (h : Host) (i j k : ℕ) : Type 0 where
   pub family : settingOf h j .family ≡ settingOf h i .family
   pub alike : AlikeStates (stateOf h i k) (stateOf h j k)
   pub not-off : stateOf h j k ≢ Off
-  pub not-stopped : stateOf h j k ≢ Stopped
+  pub not-stopped : HasStopped (stateOf h j k) → ⊥
 
 -- a name with its records, and another after it with its own
 abbrev pub twoNames : NameKind → Labels → List Data → NameKind → Labels → List Data → List Entry

@@ -21,6 +21,7 @@ use Rattle.host.specs.State.{interfaceOf, settingOf, stateOf, IsInterval, dueAt
 use Rattle.host.specs.Outcomes.{Result, refused, quiet, kept, unique, shared, stopped, query, reply, Done}
 use Rattle.host.specs.Laws.{Accepted, OnlyChanges}
 use Rattle.host.specs.Receive.{Arrival}
+use Rattle.host.specs.Stopping.{StopsUntil}
 use Rattle.host.specs.Tick.{tick}
 use Rattle.host.specs.declared.NameState.{NameState}
 use Rattle.host.specs.declared.NameState.the-variants.{Off, Verifying, Unique, Defending, Stopped, Shared}
@@ -121,13 +122,19 @@ checkOf id name = queryWith id (name ++ (0 ∷ 255 ∷ 0 ∷ 1 ∷ []))
 
 -- ---- the table: starts, by the name's state before
 
+-- a stopped name: before the time that it remembers it is 21, and then it is taken
+pub record TriedAgain (h : Host) (out : List ℕ) (until time : ℕ) (d : Done) (taken : Type 0) : Type 0 where
+  pub too-soon : time < until → Refuses h out 21 d
+  pub then : until ≤ time → taken
+
 -- kind 1, unique, with its octets in the table and an interval of n
 abbrev pub UniqueStarts : Host → ℕ → ℕ → ℕ → ℕ → ℕ → List ℕ → List ℕ → NameState → Done → Type 0
 UniqueStarts h i k n time id name out Off d = Asks h i k (Verifying 1 id (dueAt (time + n))) time (checkOf id name) out d
 UniqueStarts h i k n time id name out (Verifying sends own timer) d = Refuses h out 19 d
 UniqueStarts h i k n time id name out Unique d = Refuses h out 19 d
 UniqueStarts h i k n time id name out (Defending own qtype class timer) d = Refuses h out 19 d
-UniqueStarts h i k n time id name out Stopped d = Asks h i k (Verifying 1 id (dueAt (time + n))) time (checkOf id name) out d
+UniqueStarts h i k n time id name out (Stopped until) d =
+    TriedAgain h out until time d (Asks h i k (Verifying 1 id (dueAt (time + n))) time (checkOf id name) out d)
 UniqueStarts h i k n time id name out Shared d = Refuses h out 19 d
 
 -- kind 2, shared
@@ -136,7 +143,7 @@ SharedStarts h i k time out Off d = Becomes h i k Shared time out (shared k) d
 SharedStarts h i k time out (Verifying sends own timer) d = Refuses h out 19 d
 SharedStarts h i k time out Unique d = Refuses h out 19 d
 SharedStarts h i k time out (Defending own qtype class timer) d = Refuses h out 19 d
-SharedStarts h i k time out Stopped d = Becomes h i k Shared time out (shared k) d
+SharedStarts h i k time out (Stopped until) d = TriedAgain h out until time d (Becomes h i k Shared time out (shared k) d)
 SharedStarts h i k time out Shared d = Refuses h out 19 d
 
 -- ---- queries for the k-th name
@@ -147,7 +154,7 @@ ClearQuery h a Off d = Refuses h (a .out) 12 d
 ClearQuery h a (Verifying sends own timer) d = Replies h a false true d
 ClearQuery h a Unique d = Replies h a false false d
 ClearQuery h a (Defending own qtype class timer) d = Replies h a false false d
-ClearQuery h a Stopped d = Refuses h (a .out) 13 d
+ClearQuery h a (Stopped until) d = Refuses h (a .out) 13 d
 ClearQuery h a Shared d = Replies h a true false d
 
 -- C set, the source none of our addresses, and an interval of n: while Unique the question goes out as received
@@ -158,7 +165,7 @@ Notification h a q k n Unique d =
     Asks h (a .interface) k (Defending (a .id) (q .qtype) (q .class) (dueAt (a .time + n))) (a .time)
     (queryWith (a .id) (take (q .end - 12) (drop 12 (a .datagram)))) (a .out) d
 Notification h a q k n (Defending own qtype class timer) d = Refuses h (a .out) 14 d
-Notification h a q k n Stopped d = Refuses h (a .out) 13 d
+Notification h a q k n (Stopped until) d = Refuses h (a .out) 13 d
 Notification h a q k n Shared d = Refuses h (a .out) 14 d
 
 -- C set, and the source one of our addresses
@@ -167,7 +174,7 @@ OwnNotification h a Off d = Refuses h (a .out) 12 d
 OwnNotification h a (Verifying sends own timer) d = Refuses h (a .out) 14 d
 OwnNotification h a Unique d = Refuses h (a .out) 14 d
 OwnNotification h a (Defending own qtype class timer) d = Refuses h (a .out) 14 d
-OwnNotification h a Stopped d = Refuses h (a .out) 13 d
+OwnNotification h a (Stopped until) d = Refuses h (a .out) 13 d
 OwnNotification h a Shared d = Refuses h (a .out) 14 d
 
 -- ---- responses for the k-th name
@@ -181,20 +188,23 @@ pub data FromBelow (h : Host) (a : Arrival) : Type 0 where
   below-4 : settingOf h (a .interface) .family ≡ 4 → Below (take 4 (a .from .address .octets)) (take 4 (settingOf h (a .interface) .address)) → FromBelow h a
   below-6 : settingOf h (a .interface) .family ≡ 6 → Below (take 16 (a .from .address .octets)) (take 16 (settingOf h (a .interface) .address)) → FromBelow h a
 
-abbrev pub Stops : Host → Arrival → ℕ → Done → Type 0
-Stops h a k d = Becomes h (a .interface) k Stopped (a .time) (a .out) (stopped k) d
+-- the name stops, until the time that the response gives by ANCOUNT and what stands after its question q
+pub record Stops (h : Host) (a : Arrival) (q : Question) (k : ℕ) (d : Done) : Type 0 where
+  pub until : ℕ
+  pub until-is : StopsUntil (a .time) (headerOf (a .datagram) .answers) (a .datagram) (q .end) until
+  pub becomes : Becomes h (a .interface) k (Stopped until) (a .time) (a .out) (stopped k) d
 
 abbrev pub Keeps : Host → Arrival → ℕ → Done → Type 0
 Keeps h a k d = Leaves h (a .time) (a .out) (kept k) d
 
 -- a response that a check waits for, from elsewhere, with T clear, and with T set: from below and not
-pub record Taken (h : Host) (a : Arrival) (k : ℕ) (d : Done) : Type 0 where
-  pub t-clear : headerOf (a .datagram) .tentative ≡ false → Stops h a k d
-  pub t-set-below : headerOf (a .datagram) .tentative ≡ true → FromBelow h a → Stops h a k d
+pub record Taken (h : Host) (a : Arrival) (q : Question) (k : ℕ) (d : Done) : Type 0 where
+  pub t-clear : headerOf (a .datagram) .tentative ≡ false → Stops h a q k d
+  pub t-set-below : headerOf (a .datagram) .tentative ≡ true → FromBelow h a → Stops h a q k d
   pub t-set-else : headerOf (a .datagram) .tentative ≡ true → (FromBelow h a → ⊥) → Keeps h a k d
 
-pub record Challenged (h : Host) (a : Arrival) (k : ℕ) (d : Done) : Type 0 where
-  pub below : FromBelow h a → Stops h a k d
+pub record Challenged (h : Host) (a : Arrival) (q : Question) (k : ℕ) (d : Done) : Type 0 where
+  pub below : FromBelow h a → Stops h a q k d
   pub else : (FromBelow h a → ⊥) → Keeps h a k d
 
 -- a check waits for what matches: 16 for our own address, 15 for any other response
@@ -205,10 +215,10 @@ pub record Waits (h : Host) (a : Arrival) (matches : Type 0) (d : Done) (taken :
 
 abbrev pub Response : Host → Arrival → Question → ℕ → NameState → Done → Type 0
 Response h a q k Off d = Refuses h (a .out) 15 d
-Response h a q k (Verifying sends own timer) d = Waits h a (Matches a q own 255 1) d (Taken h a k d)
+Response h a q k (Verifying sends own timer) d = Waits h a (Matches a q own 255 1) d (Taken h a q k d)
 Response h a q k Unique d = Refuses h (a .out) 15 d
-Response h a q k (Defending own qtype class timer) d = Waits h a (Matches a q own qtype class) d (Challenged h a k d)
-Response h a q k Stopped d = Refuses h (a .out) 15 d
+Response h a q k (Defending own qtype class timer) d = Waits h a (Matches a q own qtype class) d (Challenged h a q k d)
+Response h a q k (Stopped until) d = Refuses h (a .out) 15 d
 Response h a q k Shared d = Refuses h (a .out) 15 d
 
 -- ---- ticks, with m names in the table and an interval of n
@@ -219,7 +229,7 @@ IsDue Off time = ⊥
 IsDue (Verifying sends id timer) time = timer .due ≤ time
 IsDue Unique time = ⊥
 IsDue (Defending id qtype class timer) time = timer .due ≤ time
-IsDue Stopped time = ⊥
+IsDue (Stopped until) time = ⊥
 IsDue Shared time = ⊥
 
 -- no name before the k-th is due; none but the k-th
@@ -244,7 +254,7 @@ Ticks h i k m n time name out Off d = Alone h i k m time → Leaves h time out q
 Ticks h i k m n time name out (Verifying sends id timer) d = VerifyingTicks h i k m n time name out sends id (timer .due) d
 Ticks h i k m n time name out Unique d = Alone h i k m time → Leaves h time out quiet d
 Ticks h i k m n time name out (Defending id qtype class timer) d = DefendingTicks h i k m time out (timer .due) d
-Ticks h i k m n time name out Stopped d = Alone h i k m time → Leaves h time out quiet d
+Ticks h i k m n time name out (Stopped until) d = Alone h i k m time → Leaves h time out quiet d
 Ticks h i k m n time name out Shared d = Alone h i k m time → Leaves h time out quiet d
 
 -- ---- a check that is due exactly n after its last send

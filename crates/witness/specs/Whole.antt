@@ -70,15 +70,15 @@ pub record ForName (a : Arrival) (names : List Held) (q : Question) (k : ℕ) : 
   pub question : questionAt (a .datagram) 12 ≡ Good q
   pub name : IsFor a names q k
 
--- An accepted response, by the state of its name: the name is stopped or the response kept, as specs/States.antt says for a name that is
+-- An accepted response with the question q, by the state of its name: the name is stopped or the response kept, as specs/States.antt says for a name that is
 -- Verifying and for one that is Defending. No other name waits for a response.
-abbrev pub Heard : Host → Arrival → ℕ → NameState → Done → Type 0
-Heard h a k Off d = ⊥
-Heard h a k (Verifying sends own timer) d = Taken h a k d
-Heard h a k Unique d = ⊥
-Heard h a k (Defending own qtype class timer) d = Challenged h a k d
-Heard h a k Stopped d = ⊥
-Heard h a k Shared d = ⊥
+abbrev pub Heard : Host → Arrival → Question → ℕ → NameState → Done → Type 0
+Heard h a q k Off d = ⊥
+Heard h a q k (Verifying sends own timer) d = Taken h a q k d
+Heard h a q k Unique d = ⊥
+Heard h a q k (Defending own qtype class timer) d = Challenged h a q k d
+Heard h a q k (Stopped until) d = ⊥
+Heard h a q k Shared d = ⊥
 
 -- A datagram that arrives. A query with C clear gets the whole reply, with the records that the table's entries have for the name. On one
 -- with C set the question goes out as it was received, with the call's ID, and the name is Defending, due an interval of n from now. A
@@ -92,4 +92,4 @@ pub record PlainReceive (h : Host) (a : Arrival) (d : Done) : Type 0 where
       → Asks h (a .interface) k (Defending (a .id) (q .qtype) (q .class) (dueAt (a .time + n))) (a .time)
       (queryWith (a .id) (take (q .end - 12) (drop 12 (a .datagram)))) (a .out) d
   pub response : Accepted d → headerOf (a .datagram) .response ≡ true
-      → (names : List Held) (q : Question) (k : ℕ) → ForName a names q k → Heard h a k (stateOf h (a .interface) k) d
+      → (names : List Held) (q : Question) (k : ℕ) → ForName a names q k → Heard h a q k (stateOf h (a .interface) k) d
