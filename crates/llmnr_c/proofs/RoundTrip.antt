@@ -8,7 +8,7 @@ use lib.ListN.{length, length-map}
 use Rattle.octets.specs.declared.Setting.{Setting}
 use Rattle.refusal.specs.Numbers.{reportOf}
 use Rattle.refusal.specs.declared.Refusal.{Refusal}
-use Rattle.refusal.specs.declared.Refusal.the-variants.{Room, Table, Interface, Clock, Length, Address, Opcode, Rcode, Counts, Question, Class, NotOurs, Stopped, Notification, Unmatched, Own, Tentative, Records, Busy, Settings, SeveralLabels}
+use Rattle.refusal.specs.declared.Refusal.the-variants.{Room, Table, Interface, Clock, Length, Address, Opcode, Rcode, Counts, Question, Class, NotOurs, Stopped, Notification, Unmatched, Own, Tentative, Records, Busy, Settings, TooSoon, SeveralLabels}
 use Rattle.host.specs.Outcomes.{resultOf}
 use Rattle.host.specs.declared.NameState.{NameState}
 use Rattle.host.specs.declared.NameState.the-variants.{Off, Verifying, Unique, Defending, Stopped as StoppedState, Shared}
@@ -40,7 +40,7 @@ state-back Off = refl
 state-back (Verifying sends id timer) = refl
 state-back Unique = refl
 state-back (Defending id qtype qclass timer) = refl
-state-back StoppedState = refl
+state-back (StoppedState until) = refl
 state-back Shared = refl
 
 pub name-back : (n : Name) → nameOf (flatName n) ≡ n
@@ -89,6 +89,7 @@ report-back Tentative = refl
 report-back Records = refl
 report-back Busy = refl
 report-back Settings = refl
+report-back TooSoon = refl
 report-back SeveralLabels = refl
 
 pub outcome-back : (o : Outcome) → resultFrom (flatOutcome (resultOf o)) ≡ resultOf o
@@ -118,12 +119,12 @@ name state sends id qtype qclass due = record { state = state; sends = sends; id
 
 name-forth : (state sends id qtype qclass due : ℕ) → IsNormalName (name state sends id qtype qclass due)
     → flatName (nameOf (name state sends id qtype qclass due)) ≡ name state sends id qtype qclass due
-name-forth zero sends id qtype qclass due n = rw (n .sends (λ e. omega arith), n .id (λ e. omega arith) (λ e. omega arith), n .qtype (λ e. omega arith), n .qclass (λ e. omega arith), n .due (λ e. omega arith) (λ e. omega arith))
+name-forth zero sends id qtype qclass due n = rw (n .sends (λ e. omega arith), n .id (λ e. omega arith) (λ e. omega arith), n .qtype (λ e. omega arith), n .qclass (λ e. omega arith), n .due (λ e. omega arith) (λ e. omega arith) (λ e. omega arith))
 name-forth (suc zero) sends id qtype qclass due n = rw (n .qtype (λ e. omega arith), n .qclass (λ e. omega arith))
-name-forth (suc (suc zero)) sends id qtype qclass due n = rw (n .sends (λ e. omega arith), n .id (λ e. omega arith) (λ e. omega arith), n .qtype (λ e. omega arith), n .qclass (λ e. omega arith), n .due (λ e. omega arith) (λ e. omega arith))
+name-forth (suc (suc zero)) sends id qtype qclass due n = rw (n .sends (λ e. omega arith), n .id (λ e. omega arith) (λ e. omega arith), n .qtype (λ e. omega arith), n .qclass (λ e. omega arith), n .due (λ e. omega arith) (λ e. omega arith) (λ e. omega arith))
 name-forth (suc (suc (suc zero))) sends id qtype qclass due n = rw (n .sends (λ e. omega arith))
-name-forth (suc (suc (suc (suc zero)))) sends id qtype qclass due n = rw (n .sends (λ e. omega arith), n .id (λ e. omega arith) (λ e. omega arith), n .qtype (λ e. omega arith), n .qclass (λ e. omega arith), n .due (λ e. omega arith) (λ e. omega arith))
-name-forth (suc (suc (suc (suc (suc zero))))) sends id qtype qclass due n = rw (n .sends (λ e. omega arith), n .id (λ e. omega arith) (λ e. omega arith), n .qtype (λ e. omega arith), n .qclass (λ e. omega arith), n .due (λ e. omega arith) (λ e. omega arith))
+name-forth (suc (suc (suc (suc zero)))) sends id qtype qclass due n = rw (n .sends (λ e. omega arith), n .id (λ e. omega arith) (λ e. omega arith), n .qtype (λ e. omega arith), n .qclass (λ e. omega arith))
+name-forth (suc (suc (suc (suc (suc zero))))) sends id qtype qclass due n = rw (n .sends (λ e. omega arith), n .id (λ e. omega arith) (λ e. omega arith), n .qtype (λ e. omega arith), n .qclass (λ e. omega arith), n .due (λ e. omega arith) (λ e. omega arith) (λ e. omega arith))
 name-forth (suc (suc (suc (suc (suc (suc state)))))) sends id qtype qclass due n = absurd (omega (arith, n .state))
 
 names-forth : (l : List FlatName) → AreNormalNames l → map flatName (map nameOf l) ≡ l
@@ -156,14 +157,14 @@ lookup-forth f n =
 -- ---- What is made flat is in normal form.
 
 pub name-normal : (s : NameState) → IsNormalName (flatState s)
-name-normal Off = record { state = omega arith; sends = λ e. refl; id = λ e g. refl; qtype = λ e. refl; qclass = λ e. refl; due = λ e g. refl }
+name-normal Off = record { state = omega arith; sends = λ e. refl; id = λ e g. refl; qtype = λ e. refl; qclass = λ e. refl; due = λ e g k. refl }
 name-normal (Verifying sends id timer) =
-    record { state = omega arith; sends = λ e. absurd (e refl); id = λ e g. absurd (e refl); qtype = λ e. refl; qclass = λ e. refl; due = λ e g. absurd (e refl) }
-name-normal Unique = record { state = omega arith; sends = λ e. refl; id = λ e g. refl; qtype = λ e. refl; qclass = λ e. refl; due = λ e g. refl }
+    record { state = omega arith; sends = λ e. absurd (e refl); id = λ e g. absurd (e refl); qtype = λ e. refl; qclass = λ e. refl; due = λ e g k. absurd (e refl) }
+name-normal Unique = record { state = omega arith; sends = λ e. refl; id = λ e g. refl; qtype = λ e. refl; qclass = λ e. refl; due = λ e g k. refl }
 name-normal (Defending id qtype qclass timer) =
-    record { state = omega arith; sends = λ e. refl; id = λ e g. absurd (g refl); qtype = λ e. absurd (e refl); qclass = λ e. absurd (e refl); due = λ e g. absurd (g refl) }
-name-normal StoppedState = record { state = omega arith; sends = λ e. refl; id = λ e g. refl; qtype = λ e. refl; qclass = λ e. refl; due = λ e g. refl }
-name-normal Shared = record { state = omega arith; sends = λ e. refl; id = λ e g. refl; qtype = λ e. refl; qclass = λ e. refl; due = λ e g. refl }
+    record { state = omega arith; sends = λ e. refl; id = λ e g. absurd (g refl); qtype = λ e. absurd (e refl); qclass = λ e. absurd (e refl); due = λ e g k. absurd (g refl) }
+name-normal (StoppedState until) = record { state = omega arith; sends = λ e. refl; id = λ e g. refl; qtype = λ e. refl; qclass = λ e. refl; due = λ e g k. absurd (k refl) }
+name-normal Shared = record { state = omega arith; sends = λ e. refl; id = λ e g. refl; qtype = λ e. refl; qclass = λ e. refl; due = λ e g k. refl }
 
 names-normal : (l : List Name) → AreNormalNames (map flatName l)
 names-normal [] = tt

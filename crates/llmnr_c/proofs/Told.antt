@@ -55,7 +55,7 @@ module _ (h : Host) (table : List ℕ) (i time id : ℕ) (out : List ℕ) where
       by (Defending own qtype class timer) k = tells _ refl refl
       by Off k = tells _ refl refl
       by Unique k = tells _ refl refl
-      by Stopped k = tells _ refl refl
+      by (Stopped until) k = tells _ refl refl
       by Shared k = tells _ refl refl
 
       serves : (d : Due) → Tells h i (serveDue d h table i time out)

@@ -31,7 +31,7 @@ stateOf f =
     cond (eqb (f .state) stateVerifying) (Verifying (f .sends) (f .id) (dueAt (f .due)))
     (cond (eqb (f .state) stateUnique) Unique
     (cond (eqb (f .state) stateDefending) (Defending (f .id) (f .qtype) (f .qclass) (dueAt (f .due)))
-    (cond (eqb (f .state) stateStopped) Stopped
+    (cond (eqb (f .state) stateStopped) (Stopped (f .due))
     (cond (eqb (f .state) stateShared) Shared
     Off))))
 
@@ -69,7 +69,7 @@ flatState (Verifying sends id timer) =
 flatState Unique = bare stateUnique
 flatState (Defending id qtype qclass timer) =
     record { state = stateDefending; sends = 0; id = id; qtype = qtype; qclass = qclass; due = timer .due }
-flatState Stopped = bare stateStopped
+flatState (Stopped until) = record { state = stateStopped; sends = 0; id = 0; qtype = 0; qclass = 0; due = until }
 flatState Shared = bare stateShared
 
 abbrev pub flatName : Name → FlatName

@@ -5,7 +5,7 @@ use mathlib.Core.Logic.{_≢_}
 use mathlib.Core.List.{List, [], _∷_}
 use lib.ListN.{length}
 use Rattle.octets.specs.Bounds.{interfaces as interfaceCount}
-use Rattle.llmnr_c.specs.Numbers.{stateShared, stateVerifying, stateDefending, phaseEnded, phaseAsking, phaseCollecting}
+use Rattle.llmnr_c.specs.Numbers.{stateShared, stateVerifying, stateDefending, stateStopped, phaseEnded, phaseAsking, phaseCollecting}
 use Rattle.llmnr_c.specs.declared.flat.FlatName.{FlatName}
 use Rattle.llmnr_c.specs.declared.flat.FlatNames.{FlatNames}
 use Rattle.llmnr_c.specs.declared.flat.FlatHost.{FlatHost}
@@ -17,7 +17,7 @@ pub record IsNormalName (f : FlatName) : Type 0 where
   pub id : f .state ≢ stateVerifying → f .state ≢ stateDefending → f .id ≡ 0
   pub qtype : f .state ≢ stateDefending → f .qtype ≡ 0
   pub qclass : f .state ≢ stateDefending → f .qclass ≡ 0
-  pub due : f .state ≢ stateVerifying → f .state ≢ stateDefending → f .due ≡ 0
+  pub due : f .state ≢ stateVerifying → f .state ≢ stateDefending → f .state ≢ stateStopped → f .due ≡ 0
 
 -- of a host: each name of each interface
 abbrev pub AreNormalNames : List FlatName → Type 0

@@ -23,7 +23,7 @@ use octets::Setting;
 use refusal::Refusal;
 use responder::served::Served;
 
-// A name: the number of its state, and of a state with data these; all else is zero.
+// A name: the number of its state, and of a state with data these; all else is zero. A stopped name is due when it may be tried again.
 #[repr(C)]
 pub struct FlatName {
     pub state: u8,
@@ -102,7 +102,7 @@ fn name_of(flat: FlatName) -> Name
             qclass: flat.qclass,
             timer: timer,
         },
-        FlatName::STOPPED => NameState::Stopped,
+        FlatName::STOPPED => NameState::Stopped { until: flat.due },
         FlatName::SHARED => NameState::Shared,
         _ => NameState::Off,
     };
@@ -190,7 +190,14 @@ fn flat_name(name: Name) -> FlatName
             qclass: qclass,
             due: timer.due,
         },
-        NameState::Stopped => bare(FlatName::STOPPED),
+        NameState::Stopped { until } => FlatName {
+            state: FlatName::STOPPED,
+            sends: 0,
+            id: 0,
+            qtype: 0,
+            qclass: 0,
+            due: until,
+        },
         NameState::Shared => bare(FlatName::SHARED),
     }
 }

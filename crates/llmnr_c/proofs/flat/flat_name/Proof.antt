@@ -21,17 +21,14 @@ bare-requires-2 c κs = search needs
 enum-known-state-2 : tie.Need-enum-known-state-2
 enum-known-state-2 c = search needs
 
+enum-known-state-3 : tie.Need-enum-known-state-3
+enum-known-state-3 c = search needs
+
 enum-told-3 : tie.Need-enum-told-3
 enum-told-3 c = search needs
 
 bare-requires-3 : tie.Need-bare-requires-3
 bare-requires-3 c κs = search needs
-
-enum-told-4 : tie.Need-enum-told-4
-enum-told-4 c = search needs
-
-bare-requires-4 : tie.Need-bare-requires-4
-bare-requires-4 c κs = search needs
 
 returns : tie.Need-returns
 returns c = rw (c .bare .ensures, c .before .enum-told .given .1)
@@ -46,10 +43,10 @@ returns-4 : tie.Need-returns-4
 returns-4 c = rw (c .before .state2 .given .1)
 
 returns-5 : tie.Need-returns-5
-returns-5 c = rw (c .bare3 .ensures, c .before .enum-told3 .given .1)
+returns-5 c = rw (c .before .state3 .given .1)
 
 returns-6 : tie.Need-returns-6
-returns-6 c = rw (c .bare4 .ensures, c .before .enum-told4 .given .1)
+returns-6 c = rw (c .bare3 .ensures, c .before .enum-told3 .given .1)
 
 pub flat-name-spec : {M : Type 1} → statement M
 flat-name-spec =
@@ -61,10 +58,9 @@ flat-name-spec =
     enum-told-2
     bare-requires-2
     enum-known-state-2
+    enum-known-state-3
     enum-told-3
     bare-requires-3
-    enum-told-4
-    bare-requires-4
     returns
     returns-2
     returns-3

@@ -3,7 +3,7 @@ use mathlib.Core.Path.{_≡_, refl}
 use mathlib.Core.List.{[], _∷_}
 use types.Run.{miss}
 use Rattle.refusal.specs.declared.Refusal.{Refusal}
-use Rattle.refusal.specs.declared.Refusal.the-variants.{Room, Table, Interface, Clock, Length, Address, Opcode, Rcode, Counts, Question, Class, NotOurs, Stopped, Notification, Unmatched, Own, Tentative, Records, Busy, Settings, SeveralLabels}
+use Rattle.refusal.specs.declared.Refusal.the-variants.{Room, Table, Interface, Clock, Length, Address, Opcode, Rcode, Counts, Question, Class, NotOurs, Stopped, Notification, Unmatched, Own, Tentative, Records, Busy, Settings, TooSoon, SeveralLabels}
 use Rattle.refusal.specs.Numbers.{reportOf}
 use Rattle.llmnr_c.specs.Outcomes.{offsetIn}
 use borrow.Author.Needs.{needs}
@@ -19,7 +19,7 @@ returns c = rw (c .before .refusal .given .1)
 -- the refusals that are left
 others : (c : tie.At-match-keys2) (r : Refusal) → c .before .args .refusal ≡ r → 0 ≡ offsetIn (reportOf r)
 others c Room e = refl
-others c (Table at) e = absurd (miss (0 ∷ 2 ∷ 3 ∷ 4 ∷ 5 ∷ 6 ∷ 7 ∷ 8 ∷ 9 ∷ 10 ∷ 11 ∷ 12 ∷ 13 ∷ 14 ∷ 15 ∷ 16 ∷ 17 ∷ 18 ∷ 19 ∷ 20 ∷ []) 1 tt (rw e at (c .match .keys2)))
+others c (Table at) e = absurd (miss (0 ∷ 2 ∷ 3 ∷ 4 ∷ 5 ∷ 6 ∷ 7 ∷ 8 ∷ 9 ∷ 10 ∷ 11 ∷ 12 ∷ 13 ∷ 14 ∷ 15 ∷ 16 ∷ 17 ∷ 18 ∷ 19 ∷ 20 ∷ 21 ∷ []) 1 tt (rw e at (c .match .keys2)))
 others c Interface e = refl
 others c Clock e = refl
 others c Length e = refl
@@ -38,6 +38,7 @@ others c Tentative e = refl
 others c Records e = refl
 others c Busy e = refl
 others c Settings e = refl
+others c TooSoon e = refl
 others c SeveralLabels e = refl
 
 returns-2 : tie.Need-returns-2
