@@ -8,7 +8,7 @@ TYPES = {"A": 1, "PTR": 12, "AAAA": 28, "ANY": 255}
 CLASSES = {"IN": 1, "ANY": 255}
 FLAGS = {"QR": 0x8000, "C": 0x0400, "TC": 0x0200, "T": 0x0100}
 COUNTS = ("qd", "an", "ns", "ar")
-TTL = 30
+TTL = 30  # unless another is given
 GROUPS = {4: "224.0.0.252", 6: "ff02::1:3"}
 REPEAT = re.compile(r"\{([^{}]*)\*(\d+)\}")
 ESCAPE = re.compile(r"\\(\d\d\d)")
@@ -150,7 +150,7 @@ def setting(word):
 
 
 def octets(words):
-    """The octets of all words that are left: hex:OCTETS, label:TEXT, name:NAME, pointer:TARGET, fields:TYPE/DATA."""
+    """The octets of all words that are left: hex:OCTETS, label:TEXT, name:NAME, pointer:TARGET, fields:[ttl=SECONDS/]TYPE/DATA."""
     found = b""
     while words:
         form, mark, text = words.take("octets").partition(":")
@@ -206,12 +206,16 @@ def record_data(kind, word):
 
 
 def fields(text):
-    """What a record has after its owner's name, from TYPE/DATA: type, class 1, TTL 30, length of the data, data."""
-    kind, mark, word = text.partition("/")
+    """What a record has after its owner's name, from TYPE/DATA or ttl=SECONDS/TYPE/DATA: type, class 1, TTL, length of the data, data."""
+    ttl, rest = TTL, text
+    if text.startswith("ttl="):
+        seconds, _, rest = text[4:].partition("/")
+        ttl = number(seconds, 4)
+    kind, mark, word = rest.partition("/")
     if kind not in ("A", "AAAA", "PTR") or not mark:
         raise Mistake(f"not the fields of a record: {text}")
     data = record_data(kind, word)
-    return big(TYPES[kind], 1) + struct.pack(">IH", TTL, len(data)) + data
+    return big(TYPES[kind], 1) + struct.pack(">IH", ttl, len(data)) + data
 
 
 OCTETS = {"hex": from_hex, "label": label, "name": name, "pointer": pointer, "fields": fields}

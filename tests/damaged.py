@@ -44,7 +44,7 @@ BAD_TABLE = r"refused no=2 at=\d+"
 FORMS = {
     "table": rf"good names=\d+|{BAD_TABLE}",
     "set-up": rf"ready|{BAD_TABLE}|refused no=(4|20)",
-    "start": rf"shared name=\d+|query {SENT} name=\d+|{BAD_TABLE}|refused no=(1|3|4|12|19)",
+    "start": rf"shared name=\d+|query {SENT} name=\d+|{BAD_TABLE}|refused no=(1|3|4|12|19|21)",
     "datagram": rf"reply {SENT}|query {SENT} name=\d+|(stopped|kept) name=\d+|{BAD_TABLE}|refused no=(1|[3-9]|1[0-6])",
     "tick": rf"query {SENT} name=\d+|unique name=\d+|quiet|{BAD_TABLE}|refused no=(1|3|4)",
     "settings": "",

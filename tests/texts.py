@@ -3,8 +3,9 @@
 
     python3 tests/texts.py
 
-Each stored call file, and damaged ones made from them, is printed as a text, and the text gives the same octets. Texts with mistakes are
-refused, each with a message that says which line is wrong and why. The exit status is 0 only if there were some of both and none failed.
+Each stored call file, and damaged ones made from them, is printed as a text, and the text gives the same octets. Words for octets stand for
+those that are written out beside them. Texts with mistakes are refused, each with a message that says which line is wrong and why. The exit
+status is 0 only if there were some of each and none failed.
 """
 
 import sys
@@ -70,6 +71,11 @@ MISTAKES = [
     ("answer t=0 cache=4294967296 from=192.0.2.17:1 hex:", "line 1: not a number of 4 octets: 4294967296"),
     ("answer t=0 from=192.0.2.17:1 response scale3 A IN fields:A", "line 1: not the fields of a record: A"),
     ("answer t=0 from=192.0.2.17:1 response scale3 A IN fields:MX/scale3", "line 1: not the fields of a record: MX/scale3"),
+    ("name at=0 fields:ttl=0", "line 1: not the fields of a record: ttl=0"),
+    ("name at=0 fields:ttl=0/192.0.2.17", "line 1: not the fields of a record: ttl=0/192.0.2.17"),
+    ("name at=0 fields:ttl=/A/192.0.2.17", "line 1: not a number: "),
+    ("name at=0 fields:ttl=4294967296/A/192.0.2.17", "line 1: not a number of 4 octets: 4294967296"),
+    ("name at=0 fields:A/ttl=0/192.0.2.17", "line 1: not octets in hexadecimal: 192.0.2.17"),
     ("answer t=0 from=192.0.2.17:1 response scale3 A IN\n> found", "line 2: at= is missing"),
     ("answer t=0 from=192.0.2.17:1 response scale3 A IN\n> part at=24", "line 2: an= is missing"),
     ("answer t=0 from=192.0.2.17:1 response scale3 A IN\n> none", "line 2: no line of this call: none"),
@@ -81,9 +87,26 @@ MISTAKES = [
 ]
 
 
+# Words on the left, and the octets that they stand for on the right.
+WRITTEN = [
+    ("fields:A/192.0.2.17", "hex:000100010000001e0004c0000211"),
+    ("fields:ttl=30/A/192.0.2.17", "hex:000100010000001e0004c0000211"),
+    ("fields:ttl=0/A/192.0.2.17", "hex:00010001000000000004c0000211"),
+    ("fields:ttl=0x80000001/AAAA/2001:db8::17", "hex:001c000180000001001020010db8000000000000000000000017"),
+    ("fields:ttl=4294967295/PTR/ttl=1/a", "hex:000c0001ffffffff00090774746c3d312f6100"),
+    ("label:x pointer:12 name:y", "hex:0178c00c017900"),
+]
+
+
 def comes_back(octets):
     """Whether the call file, printed as a text, is what the text gives."""
     return Text("\n".join(show.text(octets))).octets == octets
+
+
+def written(words, octets):
+    """Whether the words stand for these octets, and a call file with them comes back."""
+    file = Text(f"name at=0 {words}").octets
+    return file == Text(f"name at=0 {octets}").octets and comes_back(file)
 
 
 def refused(text, message):
@@ -105,11 +128,15 @@ def main():
     lost = [number for number, octets in enumerate(files) if not comes_back(octets)]
     for number in lost:
         print(f"texts: file {number} of seed {SEED} does not come back")
+    other = [words for words, octets in WRITTEN if not written(words, octets)]
+    for words in other:
+        print(f"texts: not the octets that they stand for: {words}")
     taken = [text for text, message in MISTAKES if not refused(text, message)]
     for text in taken:
         print(f"texts: not refused as it should be: {text!r}")
-    print(f"texts: {len(files)} call files and {len(MISTAKES)} mistakes, {len(lost) + len(taken)} failed")
-    return 1 if lost or taken else 0
+    failed = len(lost) + len(other) + len(taken)
+    print(f"texts: {len(files)} call files, {len(WRITTEN)} words and {len(MISTAKES)} mistakes, {failed} failed")
+    return 1 if failed else 0
 
 
 if __name__ == "__main__":

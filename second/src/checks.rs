@@ -7,7 +7,8 @@ use crate::message::{Message, HEADER};
 
 const LEAST_ROOM: u32 = 512;
 const MOST_ROOM: u32 = 65_536;
-const LATEST: u64 = (1 << 48) - 1;
+/// The last time of the clock's range.
+pub const LATEST: u64 = (1 << 48) - 1;
 const LONGEST_DATAGRAM: usize = 9_194;
 
 /// The number of the first test that fires, in the table's order. A planted fault names a number that is looked at

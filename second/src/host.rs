@@ -42,7 +42,9 @@ impl Host {
         let number = usize::from(name);
         let known = Some(number).filter(|number| *number < lent.names.len());
         let last = if fault == faults::START_TIME_LAST { 4 } else { 0 };
-        if let Some(no) = first(START, &self.view(lent, prefix, known, fault), last) {
+        // States go by the number, whether the table has it or not.
+        let view = HostView { number: known, ..self.view(lent, prefix, Some(number), fault) };
+        if let Some(no) = first(START, &view, last) {
             return self.refuse(lent, prefix, no, fault);
         }
         let shared = lent.names[number].shared;
@@ -119,7 +121,12 @@ impl Host {
 
     /// A refusal changes nothing, but for a planted fault.
     fn refuse(&mut self, lent: &Lent, prefix: &Prefix, no: u8, fault: Fault) -> Outcome {
-        if fault == faults::REFUSED_TIME_SETS_CLOCK && no == 4 {
+        let sets_clock = match fault {
+            faults::REFUSED_TIME_SETS_CLOCK => no == 4,
+            faults::TOO_SOON_SETS_CLOCK => no == 21,
+            _ => false,
+        };
+        if sets_clock {
             self.clock = prefix.time;
         }
         refused(no, lent)
@@ -127,10 +134,10 @@ impl Host {
 
     /// A response to a check or a defence: whether the name stops follows from the list with the response in it.
     fn decide(&mut self, prefix: &Prefix, number: usize, arrival: &Arrival, fault: Fault) -> Outcome {
-        let tentative = arrival.message.header.tentative;
-        self.add(prefix, number, Accepted::Response { tentative, source: arrival.source });
+        let (tentative, claim) = (arrival.message.header.tentative, arrival.message.claim(fault));
+        self.add(prefix, number, Accepted::Response { time: prefix.time, tentative, source: arrival.source, claim });
         match self.standing(prefix, number, fault) {
-            Standing::Stopped => Outcome::Stopped { name: number as u8 },
+            Standing::Stopped { .. } => Outcome::Stopped { name: number as u8 },
             _ => Outcome::Kept { name: number as u8 },
         }
     }

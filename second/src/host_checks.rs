@@ -18,6 +18,13 @@ pub struct HostView<'a> {
     pub standing: Standing,
 }
 
+impl HostView<'_> {
+    /// Whether the table says that the name is shared.
+    fn is_shared(&self) -> bool {
+        self.number.and_then(|number| self.lent.names.get(number)).is_some_and(|name| name.shared)
+    }
+}
+
 /// What the checks of a received datagram look at.
 pub struct ReceiveView<'a> {
     pub host: HostView<'a>,
@@ -38,8 +45,11 @@ pub const START: &[HostCheck] = &[
     (2, |call| call.lent.bad_at.is_some()),
     (3, |call| call.given.no_interface()),
     (4, |call| call.given.wrong_time()),
+    // Only a planted fault looks at this before the table.
+    (21, |call| call.given.fault == faults::TOO_SOON_FIRST && is_too_soon(call)),
     (12, |call| call.number.is_none()),
     (19, is_busy),
+    (21, is_too_soon),
 ];
 
 pub const TICK: &[HostCheck] = &[
@@ -63,7 +73,7 @@ pub const QUERY: &[ReceiveCheck] = &[
     (10, |call| call.arrival.no_question()),
     (11, has_wrong_class),
     (12, |call| call.host.number.is_none() || call.host.standing == Standing::Off),
-    (13, |call| call.host.standing == Standing::Stopped),
+    (13, |call| matches!(call.host.standing, Standing::Stopped { .. })),
     (14, is_wrong_notice),
 ];
 
@@ -90,8 +100,19 @@ fn is_wrong_setting(setting: &Setting, fault: faults::Fault) -> bool {
 fn is_busy(call: &HostView) -> bool {
     match call.standing {
         Standing::Off => false,
-        Standing::Stopped => call.given.fault == faults::STOPPED_BUSY,
+        Standing::Stopped { .. } => call.given.fault == faults::STOPPED_BUSY,
         _ => true,
+    }
+}
+
+/// Whether the name was lost here and is still to be left alone.
+fn is_too_soon(call: &HostView) -> bool {
+    let Standing::Stopped { until } = call.standing else { return false };
+    let time = call.given.prefix.time;
+    match call.given.fault {
+        faults::TOO_SOON_AT_END => time <= until,
+        faults::TOO_SOON_IF_UNIQUE => time < until && !call.is_shared(),
+        _ => time < until,
     }
 }
 

@@ -107,7 +107,7 @@ const ANSWER: &[AnswerCheck] = &[
     (15, |call| !call.lookup.waits_for(&call.arrival.message, call.given.fault)),
     (16, |call| call.given.is_ours(&call.arrival.source)),
     (17, |call| call.arrival.message.header.tentative && call.given.fault != faults::LOOKUP_TAKES_T),
-    (18, |call| call.arrival.message.answers.is_none()),
+    (18, |call| call.arrival.message.has_bad_answer()),
 ];
 
 impl Lookup {

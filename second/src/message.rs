@@ -45,8 +45,19 @@ pub struct Message {
     pub header: Header,
     /// None if it is not as the paper has it, or is cut short.
     pub question: Option<Question>,
-    /// The answer section; none if one of its records cannot be read.
-    pub answers: Option<Vec<Record>>,
+    /// As many answer records as the header counts, but only those before the first that cannot be read.
+    pub answers: Vec<Record>,
+}
+
+/// For how long a response claims its name: what its first answer record says, whoever owns it and whatever it is.
+#[derive(Clone, Copy, PartialEq, Eq, Debug)]
+pub enum Claim {
+    /// There is no answer.
+    NoAnswer,
+    /// The first answer record cannot be read.
+    BadAnswer,
+    /// The TTL of the first answer record.
+    Seconds(u32),
 }
 
 impl Header {
@@ -115,7 +126,7 @@ impl Record {
         let fixed = rest.first_chunk::<10>()?;
         let word = |at: usize| u16::from_be_bytes([fixed[at], fixed[at + 1]]);
         let mut end = 10 + usize::from(word(8));
-        if fault == faults::LOOKUP_DATA_UNREAD {
+        if fault == faults::DATA_UNREAD {
             end = end.min(rest.len());
         }
         let record = Record {
@@ -150,31 +161,110 @@ impl Message {
         let header = Header::decode(header);
         let question = Question::decode(octets);
         let begin = question.as_ref().map(|question| HEADER + question.length());
-        let answers = begin.and_then(|begin| decode_records(octets, begin, header.answers, fault));
+        let count = if fault == faults::STOP_UNCOUNTED { header.answers.max(1) } else { header.answers };
+        let answers = begin.map_or(Vec::new(), |begin| decode_records(octets, begin, count, fault));
         Message { header, question, answers }
     }
 
     pub fn query(id: u16, question: Question) -> Message {
         let header = Header { id, questions: 1, ..Header::default() };
-        Message { header, question: Some(question), answers: Some(Vec::new()) }
+        Message { header, question: Some(question), answers: Vec::new() }
+    }
+
+    /// Whether one of the answer records that the header counts cannot be read.
+    pub fn has_bad_answer(&self) -> bool {
+        self.answers.len() < usize::from(self.header.answers)
+    }
+
+    pub fn claim(&self, fault: Fault) -> Claim {
+        let record = match fault {
+            faults::STOP_LAST_RECORD => self.answers.last(),
+            faults::STOP_BAD_SECOND if self.has_bad_answer() => None,
+            _ => self.answers.first(),
+        };
+        match record {
+            Some(record) if fault == faults::STOP_OTHER_OWNER && !self.asks_for(&record.owner) => Claim::BadAnswer,
+            Some(record) => Claim::Seconds(record.ttl),
+            None if self.header.answers == 0 => Claim::NoAnswer,
+            None => Claim::BadAnswer,
+        }
+    }
+
+    fn asks_for(&self, name: &Labels) -> bool {
+        self.question.as_ref().is_some_and(|question| names::equal(&question.name, name, faults::NONE))
     }
 
     pub fn encode(&self) -> Vec<u8> {
         let mut octets = self.header.encode();
         octets.extend(self.question.iter().flat_map(Question::encode));
-        let records = self.answers.iter().flatten();
-        octets.extend(records.flat_map(|record| record.encode(self.question.as_ref())));
+        octets.extend(self.answers.iter().flat_map(|record| record.encode(self.question.as_ref())));
         octets
     }
 }
 
-fn decode_records(octets: &[u8], begin: usize, count: u16, fault: Fault) -> Option<Vec<Record>> {
-    let mut records = Vec::new();
+/// So many records, up to the first that cannot be read.
+fn decode_records(octets: &[u8], begin: usize, count: u16, fault: Fault) -> Vec<Record> {
     let mut at = begin;
-    for _ in 0..count {
+    let next = |_| {
         let (record, next) = Record::decode(octets, at, fault)?;
-        records.push(record);
         at = next;
+        Some(record)
+    };
+    (0..count).map_while(next).collect()
+}
+
+#[cfg(test)]
+mod tests {
+    use super::*;
+
+    /// A record of type 1 and class 1 with this owner and TTL, and four octets of data.
+    fn record(owner: &[u8], ttl: u32) -> Vec<u8> {
+        [owner, &[0, 1, 0, 1], &ttl.to_be_bytes(), &[0, 4, 1, 2, 3, 4]].concat()
     }
-    Some(records)
+
+    /// What a response for the name `a` claims, with this ANCOUNT and these octets after its question.
+    fn claim(count: u16, after: &[u8], fault: Fault) -> Claim {
+        let header = [&[0, 9, 0x80, 0, 0, 1][..], &count.to_be_bytes(), &[0; 4]].concat();
+        Message::decode(&[&header[..], b"\x01a\0\0\xff\0\x01", after].concat(), fault).claim(fault)
+    }
+
+    #[test]
+    fn the_first_record_claims() {
+        let (one, other) = (record(&[0xc0, 12], 7), record(b"\x01B\xc0\x0c", 60));
+        let claims = |count, after: &[u8]| claim(count, after, faults::NONE);
+        assert_eq!([0, 1, 2, 65535].map(|count| claims(count, &[])), {
+            [Claim::NoAnswer, Claim::BadAnswer, Claim::BadAnswer, Claim::BadAnswer]
+        });
+        assert_eq!(claims(0, &one), Claim::NoAnswer);
+        assert_eq!([1, 2, 65535].map(|count| claims(count, &one)), [Claim::Seconds(7); 3]);
+        assert_eq!(claims(2, &[&one[..], &other].concat()), Claim::Seconds(7));
+        assert_eq!(claims(2, &[&other[..], &one].concat()), Claim::Seconds(60));
+        assert_eq!(claims(2, &[&one[..], &[0x40]].concat()), Claim::Seconds(7));
+        assert_eq!(claims(1, &record(&[0], u32::MAX)), Claim::Seconds(u32::MAX));
+    }
+
+    #[test]
+    fn a_bad_first_record_does_not_say() {
+        let whole = record(&[0xc0, 12], 7);
+        for length in 0..whole.len() {
+            assert_eq!(claim(1, &whole[..length], faults::NONE), Claim::BadAnswer, "{length}");
+        }
+        // At 12 there is the question, and the record begins at 19.
+        for owner in [&[0xc0, 19][..], &[0xc0, 20], &[0xc0, 11], &[64], &[0x80], &[1, b'b', 0xc0, 19]] {
+            assert_eq!(claim(2, &[record(owner, 7), whole.clone()].concat(), faults::NONE), Claim::BadAnswer);
+        }
+    }
+
+    #[test]
+    fn faults_read_other_records() {
+        let (one, other) = (record(&[0xc0, 12], 7), record(b"\x01B\xc0\x0c", 60));
+        let both = [&one[..], &other].concat();
+        assert_eq!(claim(2, &both, faults::STOP_LAST_RECORD), Claim::Seconds(60));
+        assert_eq!(claim(3, &both, faults::STOP_BAD_SECOND), Claim::BadAnswer);
+        assert_eq!(claim(0, &one, faults::STOP_UNCOUNTED), Claim::Seconds(7));
+        assert_eq!(claim(0, &[], faults::STOP_UNCOUNTED), Claim::NoAnswer);
+        assert_eq!(claim(1, &other, faults::STOP_OTHER_OWNER), Claim::BadAnswer);
+        assert_eq!(claim(1, &record(b"\x01A\0", 7), faults::STOP_OTHER_OWNER), Claim::Seconds(7));
+        assert_eq!(claim(1, &one[..one.len() - 1], faults::DATA_UNREAD), Claim::Seconds(7));
+    }
 }

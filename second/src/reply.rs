@@ -27,7 +27,7 @@ pub fn reply(id: u16, question: &Question, named: &Named, standing: &Standing, f
         answers: answers.len() as u16,
         ..Header::default()
     };
-    Message { header, question: Some(question), answers: Some(answers) }
+    Message { header, question: Some(question), answers }
 }
 
 fn is_tentative(standing: &Standing, fault: Fault) -> bool {

@@ -234,6 +234,60 @@ mod tests {
         assert_eq!(session.call(&Call::Tick { prefix: prefix(400, 1) }), Outcome::Unique { name: 0 });
     }
 
+    /// A response to the check of the started name, with T clear and one answer record with this TTL.
+    fn lose(session: &mut Session, time: u64, ttl: u32) {
+        let mut octets = b"\x00\x09\x80\0\0\x01\0\x01\0\0\0\0\x06scale3\0\0\xff\0\x01\xc0\x0c\0\x01\0\x01".to_vec();
+        octets.extend([&ttl.to_be_bytes()[..], &[0, 4, 1, 2, 3, 4]].concat());
+        let (source, destination) = (Address { octets: [255; 16], ..ASKER }, session.host.settings[0].address);
+        let call = Call::Datagram { prefix: prefix(time, 1), source, port: 5355, destination, octets };
+        assert_eq!(session.call(&call), Outcome::Stopped { name: 0 });
+    }
+
+    /// The refusal of a start of the name at a time; 0 if it is accepted.
+    fn refusal(session: &mut Session, time: u64) -> u8 {
+        match session.call(&Call::Start { prefix: prefix(time, 9), name: 0 }) {
+            Outcome::Refused { no, .. } => no,
+            _ => 0,
+        }
+    }
+
+    #[test]
+    fn a_lost_name_is_not_started_too_soon() {
+        let mut session = started(&S).0;
+        lose(&mut session, 50, 1);
+        assert_eq!(
+            [50, 1_049, 49, 1_049, 1_050, 1_050].map(|time| refusal(&mut session, time)),
+            [21, 21, 4, 21, 0, 19]
+        );
+        lose(&mut session, 1_050, 0);
+        assert_eq!(refusal(&mut session, 1_050), 0);
+        let last = (1 << 48) - 1;
+        lose(&mut session, last - 29_999, 30);
+        assert_eq!([last, last + 1].map(|time| refusal(&mut session, time)), [21, 4]);
+    }
+
+    #[test]
+    fn too_soon_is_looked_at_last_and_whatever_the_kind() {
+        for fault in [faults::NONE, faults::TOO_SOON_FIRST, faults::TOO_SOON_AT_END, faults::TOO_SOON_IF_UNIQUE] {
+            let mut session = started(&S).0;
+            session.fault = fault;
+            lose(&mut session, 50, 1);
+            session.call(&Call::Table(Vec::new()));
+            let gone = refusal(&mut session, 1_049);
+            let mut shared = S;
+            shared[2] = 2;
+            session.call(&Call::Table(shared.to_vec()));
+            let found = [gone, refusal(&mut session, 1_049), refusal(&mut session, 1_050)];
+            let wanted = match fault {
+                faults::TOO_SOON_FIRST => [21, 21, 0],
+                faults::TOO_SOON_AT_END => [12, 21, 21],
+                faults::TOO_SOON_IF_UNIQUE => [12, 0, 19],
+                _ => [12, 21, 0],
+            };
+            assert_eq!(found, wanted);
+        }
+    }
+
     #[test]
     fn a_name_is_printed_with_its_labels() {
         let octets = b"\0\0\0\0\0\0\0\0\0\0\0\0\x05plant\0\x06scale3\xc0\x0c".to_vec();

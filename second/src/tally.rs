@@ -1,16 +1,19 @@
 //! How often each outcome of each call was reached, from the lines that both programs printed. Each outcome and each
 //! refusal that the rules provide for must be reached, and no other.
 
+mod stops;
+
 use crate::calls::{read, Call};
 use crate::faults;
 use crate::names::{is_reverse, read_plain};
 use crate::rows::Rows;
+use stops::Stops;
 
 /// Calls with the outcomes and refusal numbers that the rules' orders of checks give. Datagrams go by their QR bit.
 const EXPECTED: &[(&str, &str)] = &[
     ("table", "good 2"),
     ("set-up", "ready 2 4 20"),
-    ("start", "shared query 1 2 3 4 12 19"),
+    ("start", "shared query 1 2 3 4 12 19 21"),
     ("datagram, a query", "reply query 1 2 3 4 5 6 7 9 10 11 12 13 14"),
     ("datagram, a response", "stopped kept 1 2 3 4 5 6 7 8 9 10 15 16"),
     ("tick", "query unique quiet 1 2 3 4"),
@@ -34,6 +37,8 @@ const EXPECTED: &[(&str, &str)] = &[
          next-part same-tick 1-pointer 16-pointers 255-octet-name 0-labels 0-labels-16-pointers 127-labels \
          127-labels-16-pointers",
     ),
+    (stops::LOST, stops::LOST_NOTES),
+    (stops::AGAIN, stops::AGAIN_NOTES),
 ];
 
 const LAST_TIME: &str = "281474976710655";
@@ -220,6 +225,7 @@ impl Tally {
     pub fn add(&mut self, file: &[u8], text: &str) {
         let (calls, _) = read(file);
         let mut before: Option<Line> = None;
+        let mut stops = Stops::default();
         for (number, line) in text.lines().enumerate() {
             let line = Line::read(line);
             let call = calls.get(number);
@@ -229,6 +235,8 @@ impl Tally {
             }
             of_note_in_ask(&line, call).into_iter().for_each(|note| self.rows.count("of note: asks", note));
             of_note(&line, call).into_iter().for_each(|note| self.rows.count("of note: others", note));
+            let (row, notes) = stops.of_note(&line, call);
+            notes.into_iter().for_each(|note| self.rows.count(row, note));
             if let Some(note) = before.and_then(|before| of_note_in_pair(&before, &line)) {
                 self.rows.count("of note: others", note);
             }

@@ -70,7 +70,7 @@ impl Maker {
         let mut settings = addresses::settings(random);
         let mut time = match random.below(12) {
             0 => 0,
-            1 => LAST_TIME - random.below(4000) as u64,
+            1 => LAST_TIME - (random.pick(&[0, 0, 30_000]) + random.below(4000)) as u64,
             2 => (1 << 32) - random.below(2000) as u64,
             3 => (1 << 16) - random.below(2000) as u64,
             4 | 5 => random.word() & LAST_TIME,
@@ -109,7 +109,10 @@ impl Maker {
         if resting.is_empty() && !self.memory.names_in(&WAITING).is_empty() && self.random.chance(2, 3) {
             return self.tick();
         }
-        let (interface, mut name) = if !resting.is_empty() && self.random.chance(4, 5) {
+        let gone = self.memory.gone();
+        let (interface, mut name) = if !gone.is_empty() && self.random.chance(1, 6) {
+            self.random.pick(&gone)
+        } else if !resting.is_empty() && self.random.chance(4, 5) {
             self.random.pick(&resting)
         } else {
             (self.interface(), self.random.below(self.memory.table.names.len().max(1)))
@@ -118,10 +121,19 @@ impl Maker {
             let count = self.memory.table.names.len();
             name = self.random.pick(&[count, count + 1, 7, 8, 9, 255]);
         }
-        let time = self.soon(self.memory.clock);
+        let time = self.start_time(interface, name);
         let mut prefix = self.prefix(interface, time);
         self.slip_prefix(&mut prefix);
         Call::Start { prefix, name: name as u8 }
+    }
+
+    /// A time for a start: of a name that has stopped mostly about the end of its wait.
+    fn start_time(&mut self, interface: usize, name: usize) -> u64 {
+        let clock = self.memory.clock;
+        match self.memory.until(interface, name) {
+            Some(until) if self.random.chance(5, 6) => self.about(until.min(LAST_TIME), clock),
+            _ => self.soon(clock),
+        }
     }
 
     pub fn tick(&mut self) -> Call {
@@ -250,11 +262,7 @@ impl Maker {
         // T mostly set: a clear one stops a name that is being verified, whatever the source.
         let tentative = if random.chance(3, 4) { TENTATIVE } else { 0 };
         draft.flags = RESPONSE | tentative | random.word() as u16 & 0x06f0;
-        draft.counts[1..].fill_with(|| random.pick(&[0, 0, 1, 2, 65535]));
-        if random.chance(1, 4) {
-            let length = random.pick(&[1, 12, 16]);
-            draft.after = random.octets(length);
-        }
+        self.put_answers(&mut draft);
         draft
     }
 

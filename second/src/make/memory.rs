@@ -1,9 +1,13 @@
 //! What the maker of a random call file remembers of the calls so far, so that the next ones can aim at the edges:
-//! the table, the settings, the host's clock, and each check's and lookup's ID, question and due time.
+//! the table, the settings, the host's clock, each check's and lookup's ID, question and due time, and until when a
+//! stopped name is left alone.
 
 use super::tables::Table;
 use crate::calls::{Call, Prefix, Setting};
+use crate::faults::NONE;
+use crate::history;
 use crate::lines::Outcome;
+use crate::message::Message;
 
 /// The largest time that a call may have.
 pub const LAST_TIME: u64 = (1 << 48) - 1;
@@ -28,9 +32,11 @@ pub struct Check {
     /// How often it was sent since the start or the notice.
     pub sends: usize,
     pub due: u64,
+    /// Until when it is left alone if it has stopped.
+    pub until: u64,
 }
 
-const OFF: Check = Check { state: State::Off, id: 0, qtype: 0, class: 0, sends: 0, due: 0 };
+const OFF: Check = Check { state: State::Off, id: 0, qtype: 0, class: 0, sends: 0, due: 0, until: 0 };
 
 #[derive(Clone, Copy, PartialEq, Eq)]
 pub enum Phase {
@@ -99,6 +105,19 @@ impl Memory {
         found
     }
 
+    /// Interface and number of names that have stopped and that the table has no more.
+    pub fn gone(&self) -> Vec<(usize, usize)> {
+        let gone = |interface| (self.table.names.len()..8).map(move |name| (interface, name));
+        let places = Memory::used(&self.settings).into_iter().flat_map(gone);
+        places.filter(|(interface, name)| self.until(*interface, *name).is_some()).collect()
+    }
+
+    /// Until when a name of this number is left alone; none if it has not stopped there.
+    pub fn until(&self, interface: usize, name: usize) -> Option<u64> {
+        let check = self.checks[interface].get(name)?;
+        (check.state == State::Stopped).then_some(check.until)
+    }
+
     pub fn lookups_in(&self, phases: &[Phase]) -> Vec<usize> {
         (0..4).filter(|&slot| phases.contains(&self.lookups[slot].phase)).collect()
     }
@@ -159,7 +178,10 @@ impl Memory {
             }
             Outcome::Shared { name } => checks[number(name)].state = State::Shared,
             Outcome::Unique { name } => checks[number(name)].state = State::Unique,
-            Outcome::Stopped { name } => checks[number(name)].state = State::Stopped,
+            Outcome::Stopped { name } => {
+                let check = &mut checks[number(name)];
+                (check.state, check.until) = (State::Stopped, prefix.time + wait(call));
+            }
             _ => {}
         }
     }
@@ -194,6 +216,12 @@ impl Memory {
             _ => {}
         }
     }
+}
+
+/// How long a name is left alone that was lost to this datagram.
+fn wait(call: &Call) -> u64 {
+    let Call::Datagram { octets, .. } = call else { return 0 };
+    history::wait(Message::decode(octets, NONE).claim(NONE), NONE)
 }
 
 fn lookup_interval(settings: &[Setting; 4], interface: u8) -> u64 {

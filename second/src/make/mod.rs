@@ -3,6 +3,7 @@
 //! remembers; it is right up to the first line in which two programs differ, and no line after that one counts.
 
 mod addresses;
+mod answers;
 mod beginnings;
 mod damage;
 mod draft;

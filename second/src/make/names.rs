@@ -82,6 +82,17 @@ fn fresh(random: &mut Random, earlier: &[Vec<u8>]) -> Vec<u8> {
     }
 }
 
+/// A name of one label, in which a zero and 16 pointers stand, each of them to the one before if the name is at 12.
+pub fn ladder() -> Vec<u8> {
+    let pointers = (1..=16).flat_map(|number| [0xc0, rung(12, number - 1) as u8]);
+    join(&[[0].into_iter().chain(pointers).collect()])
+}
+
+/// The offset of the place in a ladder, which is at `start`, from where so many pointers are followed.
+pub fn rung(start: usize, pointers: usize) -> usize {
+    start + if pointers == 0 { 1 } else { 2 * pointers }
+}
+
 /// The names of one call file, all good and none the root; many are close to each other.
 pub fn pool(random: &mut Random) -> Vec<Vec<u8>> {
     let mut names: Vec<Vec<u8>> = Vec::new();
@@ -92,6 +103,7 @@ pub fn pool(random: &mut Random) -> Vec<Vec<u8>> {
         }
     }
     names.push(b"\x06scale3\0".to_vec());
+    names.push(ladder());
     names
 }
 
@@ -169,6 +181,18 @@ pub fn bad(random: &mut Random, name: &[u8]) -> Vec<u8> {
 #[cfg(test)]
 mod tests {
     use super::*;
+    use crate::faults;
+    use crate::names::read_with_pointers;
+
+    #[test]
+    fn a_ladder_is_a_name_with_pointers_in_it() {
+        let message = [vec![0; 12], ladder()].concat();
+        let read = |at| read_with_pointers(&message, at, faults::NONE);
+        assert_eq!(read(12).map(|read| (read.labels.len(), read.pointers)), Some((1, 0)));
+        for pointers in 0..=16 {
+            assert_eq!(read(rung(12, pointers)).map(|read| (read.labels.len(), read.pointers)), Some((0, pointers)));
+        }
+    }
 
     #[test]
     fn names_have_the_wanted_length() {

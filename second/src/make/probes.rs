@@ -1,10 +1,10 @@
 //! Calls that show the whole state of a host: its clock, what each name is on each interface, the ID, type and class
-//! that its check waits for, how often it was asked for, and when it is due.
+//! that its check waits for, how often it was asked for, when it is due, and until when a stopped one is left alone.
 
 use super::addresses::group;
 use super::draft::{Draft, RESPONSE, TENTATIVE};
 use super::host::WAITING;
-use super::memory::{Memory, LAST_TIME};
+use super::memory::{Memory, State, LAST_TIME};
 use super::situations::Scene;
 use super::{names, tables};
 use crate::calls::{Address, Call, Prefix};
@@ -21,9 +21,10 @@ fn name(number: usize) -> Vec<u8> {
 impl Scene {
     /// Shows the state. The clock is looked for at the given times and just before them; the starts come last.
     ///
-    /// States go by the number of a name, so a table of eight short names serves for all.
+    /// States go by the number of a name, so a table of eight short names serves for all. They are shared, so that
+    /// nothing waits after a start.
     pub fn probe(&mut self, times: [u64; 2], starts: [(usize, usize); 2]) {
-        self.call(Call::Table((0..8).flat_map(|number| tables::entry(1, &name(number))).collect()));
+        self.call(Call::Table((0..8).flat_map(|number| tables::entry(2, &name(number))).collect()));
         let used = Memory::used(&self.maker.memory.settings);
         for interface in (0..4).filter(|interface| !used.contains(interface)) {
             self.tick_at(interface, self.maker.memory.clock);
@@ -34,6 +35,7 @@ impl Scene {
         self.show_clock(times, &used);
         self.show_states(&used);
         self.show_checks();
+        self.show_waits();
         self.show_timers();
         // Nothing else waits.
         let later = (self.maker.memory.clock + 1000).min(LAST_TIME);
@@ -41,8 +43,7 @@ impl Scene {
             self.tick_at(interface, later);
         }
         for (interface, name) in starts {
-            let prefix = self.plain(interface, self.maker.memory.clock);
-            self.call(Call::Start { prefix, name: name as u8 });
+            self.start_at(interface, name, self.maker.memory.clock);
         }
     }
 
@@ -53,6 +54,11 @@ impl Scene {
     fn tick_at(&mut self, interface: usize, time: u64) {
         let prefix = self.plain(interface, time);
         self.call(Call::Tick { prefix });
+    }
+
+    fn start_at(&mut self, interface: usize, name: usize, time: u64) {
+        let prefix = self.plain(interface, time);
+        self.call(Call::Start { prefix, name: name as u8 });
     }
 
     /// A query for the name of a number, from the highest address of the family.
@@ -127,11 +133,22 @@ impl Scene {
         draft
     }
 
-    /// Ticks at each due time until no name waits, and just before it for the names that wait at first.
+    /// A start just before the end of a stopped name's wait is refused; the last time is before it too.
+    fn show_waits(&mut self) {
+        for (until, interface, number) in self.waits() {
+            if until > self.maker.memory.clock {
+                self.start_at(interface, number, (until - 1).min(LAST_TIME));
+            }
+        }
+    }
+
+    /// Ticks at each due time until no name waits, and just before it for the names that wait at first; between them
+    /// and after them starts of stopped names at the ends of their waits.
     fn show_timers(&mut self) {
         let first = self.dues();
         for _ in 0..MOST_TIMES {
-            let Some((due, _)) = self.dues().into_iter().min() else { return };
+            let Some((due, _)) = self.dues().into_iter().min() else { break };
+            self.start_again(due.max(self.maker.memory.clock + 1));
             let clock = self.maker.memory.clock;
             for interface in (0..4).filter(|interface| due > clock && first.contains(&(due, *interface))) {
                 self.tick_at(interface, due - 1);
@@ -140,6 +157,24 @@ impl Scene {
                 self.tick_at(interface, due.max(clock));
             }
         }
+        self.start_again(LAST_TIME + 1);
+    }
+
+    /// Starts each stopped name whose wait ends before the given time.
+    fn start_again(&mut self, before: u64) {
+        for (until, interface, number) in self.waits().into_iter().filter(|(until, _, _)| *until < before) {
+            self.start_at(interface, number, until.max(self.maker.memory.clock));
+        }
+    }
+
+    /// The end of its wait, the interface and the number of each name that has stopped, the earliest first.
+    fn waits(&self) -> Vec<(u64, usize, usize)> {
+        let memory = &self.maker.memory;
+        let stopped = memory.names_in(&[State::Stopped]).into_iter();
+        let mut waits: Vec<(u64, usize, usize)> =
+            stopped.map(|(interface, number)| (memory.checks[interface][number].until, interface, number)).collect();
+        waits.sort();
+        waits
     }
 
     /// Due time and interface of each name that waits and can be served.
@@ -157,6 +192,8 @@ mod tests {
     use crate::faults;
     use crate::lines::Outcome;
     use crate::make::situations::{situation, Situation, Wish};
+    use crate::message::{Message, HEADER};
+    use crate::names::read_with_pointers;
     use crate::session::Session;
 
     /// What the probes of a situation show after some of its two calls.
@@ -187,6 +224,37 @@ mod tests {
             }
         }
         assert!(ids > 150, "{ids}");
+    }
+
+    /// The datagram with so much added to the TTL of its first answer record, if it has one whose top bit is clear.
+    fn with_ttl(call: &Call, added: i64) -> Option<Call> {
+        let mut call = call.clone();
+        let Call::Datagram { octets, .. } = &mut call else { return None };
+        let Message { question, answers, .. } = Message::decode(octets, faults::NONE);
+        let ttl = i64::from(answers.first()?.ttl) + added;
+        let owner = read_with_pointers(octets, HEADER + question?.length(), faults::NONE)?;
+        let octets = &mut octets[owner.next + 4..owner.next + 8];
+        octets.copy_from_slice(&u32::try_from(ttl).ok().filter(|ttl| *ttl < 1 << 31)?.to_be_bytes());
+        Some(call)
+    }
+
+    #[test]
+    fn the_end_of_a_wait_is_shown() {
+        let mut ends = 0;
+        for seed in 0..2000 {
+            let made = situation(seed, Wish::TwoInterfaces);
+            // A wait that ends after the last time does not show; none is as long as 2^41 ms.
+            let late = made.facts.clock > LAST_TIME - (1 << 41);
+            let stopped = |place: &usize| matches!(made.outcomes[*place], Outcome::Stopped { .. });
+            for (place, added) in (0..2).filter(stopped).flat_map(|place| [(place, -1), (place, 1)]) {
+                let Some(call) = with_ttl(&made.pair[place], added).filter(|_| !late) else { continue };
+                let mut pair = made.pair.clone();
+                pair[place] = call;
+                assert_ne!(shown(&made, &made.pair), shown(&made, &pair), "seed {seed}");
+                ends += 1;
+            }
+        }
+        assert!(ends > 30, "{ends}");
     }
 
     #[test]

@@ -1,7 +1,7 @@
 //! Random situations for the question whether the order of two calls matters: calls that lead to some state of a host
 //! (`beginnings.rs`), the two calls, and calls that show the state after them (`probes.rs`).
 
-use super::memory::{Check, State};
+use super::memory::{Check, State, LAST_TIME};
 use super::{draft, Maker};
 use crate::calls::{Call, Prefix, Setting};
 use crate::lines::Outcome;
@@ -47,6 +47,8 @@ pub struct Facts {
     pub due: [bool; 2],
     /// If both are made for the name of one number: the words of its state on the two interfaces.
     pub states: Option<[&'static str; 2]>,
+    /// For each that starts a name that has stopped: until when that is left alone.
+    pub untils: [Option<u64>; 2],
 }
 
 /// A situation in the making.
@@ -119,18 +121,15 @@ impl Scene {
         let interfaces = [one, if wish == Wish::OneInterface { one } else { other }];
         let any = self.random().below(8);
         let names = [focus.name, if self.random().chance(7, 8) { focus.name } else { any }];
-        let kinds = [0, 1].map(|place| self.kind(interfaces[place], names[place]));
-        let time = self.moment(interfaces, kinds);
-        let later = if wish == Wish::TwoTimes { self.random().pick(&[1, 1, 10, 100, 1000]) } else { 0 };
-        let times = [time, time.saturating_add(later)];
         let numbers = self.numbers(interfaces);
-        [0, 1].map(|place| Aim {
-            kind: kinds[place],
-            interface: interfaces[place],
-            number: numbers[place],
-            name: names[place],
-            time: times[place],
-        })
+        let mut aims = [0, 1].map(|place| {
+            let (interface, name) = (interfaces[place], names[place]);
+            Aim { kind: self.kind(interface, name), interface, number: numbers[place], name, time: 0 }
+        });
+        aims[0].time = self.moment(&aims);
+        let later = if wish == Wish::TwoTimes { self.random().pick(&[1, 1, 10, 100, 1000]) } else { 0 };
+        aims[1].time = aims[0].time.saturating_add(later);
+        aims
     }
 
     /// A kind of call, mostly one that the name's state lets pass.
@@ -153,18 +152,31 @@ impl Scene {
             settings: memory.settings,
             due: aims.each_ref().map(|aim| self.dues().contains(&(aim.time, aim.interface))),
             states: known.then(|| aims.each_ref().map(state)),
+            untils: aims.each_ref().map(|aim| self.until(aim)),
         }
     }
 
-    /// The time of the two calls: about a due time, or that of the clock, and now and then one that is refused.
-    fn moment(&mut self, interfaces: [usize; 2], kinds: [Kind; 2]) -> u64 {
-        let is_ticked = |interface| (0..2).any(|place| interfaces[place] == interface && kinds[place] == Kind::Tick);
+    /// Until when a name is left alone that has stopped and is to be started.
+    fn until(&self, aim: &Aim) -> Option<u64> {
+        self.maker.memory.until(aim.interface, aim.name).filter(|_| aim.kind == Kind::Start)
+    }
+
+    /// The time of the two calls: about a due time or the end of a wait, or that of the clock, and now and then one
+    /// that is refused.
+    fn moment(&mut self, aims: &[Aim; 2]) -> u64 {
+        let on = |interface| aims.iter().filter(move |aim| aim.interface == interface);
+        let is_ticked = |interface| on(interface).any(|aim| aim.kind == Kind::Tick);
         let mut dues = self.dues();
-        dues.retain(|(_, interface)| interfaces.contains(interface));
+        dues.retain(|(_, interface)| on(*interface).count() > 0);
         if dues.iter().any(|(_, interface)| is_ticked(*interface)) {
             dues.retain(|(_, interface)| is_ticked(*interface));
         }
         let clock = self.maker.memory.clock;
+        let ends: Vec<u64> = aims.iter().filter_map(|aim| self.until(aim)).collect();
+        if !ends.is_empty() && self.random().chance(1, 2) {
+            let end = self.random().pick(&ends);
+            return self.maker.about(end.min(LAST_TIME), clock);
+        }
         match self.random().below(32) {
             0 => draft::odd_time(self.random(), clock),
             1 => clock.saturating_sub(1),

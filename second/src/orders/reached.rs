@@ -22,8 +22,9 @@ pub const EXPECTED: Expected = &[
     ("tick, datagram", ENDS),
     ("tick, tick", ENDS),
     ("outcomes", "first-query shared reply defence stopped kept repeat unique quiet"),
-    ("refused with", "1 2 3 4 5 6 7 8 9 10 11 12 13 14 15 16 19"),
+    ("refused with", "1 2 3 4 5 6 7 8 9 10 11 12 13 14 15 16 19 21"),
     ("times", "before-the-clock the-clock's later too-late due-on-one due-on-both"),
+    ("restarts", "too-soon too-soon-by-1 at-the-end later both-too-soon both-in-time only-one-in-time"),
     ("interfaces", "4-and-4 4-and-6 6-and-6 one-unused both-unused one-above-3 both-above-3"),
     ("tables", "good bad"),
     ("off here, there", STATES),
@@ -90,6 +91,7 @@ pub fn count(rows: &mut Rows, situation: &Situation) {
     }
     rows.count("tables", if facts.table_good { "good" } else { "bad" });
     count_times(rows, situation);
+    count_restarts(rows, situation);
     count_interfaces(rows, situation);
     if let Some([here, there]) = facts.states {
         rows.count(row(&format!("{here} here"), "there"), there);
@@ -111,6 +113,26 @@ fn count_times(rows: &mut Rows, situation: &Situation) {
         [true, true] => rows.count("times", "due-on-both"),
         [false, false] => {}
         _ => rows.count("times", "due-on-one"),
+    }
+}
+
+/// Starts of names that have stopped: how their time lies to the end of the wait.
+fn count_restarts(rows: &mut Rows, situation: &Situation) {
+    let time = situation.pair[0].prefix().map_or(0, |prefix| prefix.time);
+    for until in situation.facts.untils.into_iter().flatten() {
+        rows.count(
+            "restarts",
+            match until {
+                _ if until == time => "at-the-end",
+                _ if until < time => "later",
+                _ if until - 1 == time => "too-soon-by-1",
+                _ => "too-soon",
+            },
+        );
+    }
+    if let [Some(one), Some(other)] = situation.facts.untils {
+        let in_time = [one, other].iter().filter(|until| **until <= time).count();
+        rows.count("restarts", ["both-too-soon", "only-one-in-time", "both-in-time"][in_time]);
     }
 }
 
