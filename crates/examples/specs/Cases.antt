@@ -1,6 +1,6 @@
 -- Document 01's examples: a list of cases, each a call or some calls and what they give. First those marked P, then the others that are
--- about one call or a short run.
-use Prim.Native.Nat.{ℕ, zero, suc, _-_}
+-- about one call or a short run, and last those of document 02, [6].
+use Prim.Native.Nat.{ℕ, zero, suc, _+_, _-_}
 use mathlib.Core.Path.{_≡_}
 use mathlib.Core.List.{List, [], _∷_, _++_}
 use lib.ListN.{length, take, replicate}
@@ -13,7 +13,7 @@ use Rattle.host.specs.declared.NameState.the-variants.{Off, Verifying, Unique}
 use Rattle.host.specs.declared.Host.{Host}
 use Rattle.host.specs.State.{offName, withClock}
 use Rattle.host.specs.SetUp.{freshInterface, zeroSetting}
-use Rattle.host.specs.Outcomes.{Done, Result, refused, reply, quiet, unique, nowhere}
+use Rattle.host.specs.Outcomes.{Done, Result, refused, reply, quiet, unique, stopped, nowhere}
 use Rattle.host.specs.Outcomes.{query as queried}
 use Rattle.host.specs.Start.{start}
 use Rattle.host.specs.Tick.{tick}
@@ -30,9 +30,10 @@ S =
 abbrev pub buffer : List ℕ
 buffer = replicate 512 0xa5
 
--- a start of name 0, or a tick, at a time, and its result
+-- a start of name 0, a tick, or a response that is received, at a time, and its result
 pub data Request : Type 0 where
   starts ticks : Request
+  hears : List ℕ → Request
 
 pub record Stage : Type 0 where
   pub request : Request
@@ -47,9 +48,29 @@ pub data Case : Type 0 where
   -- calls made one after another on interface 0 with table S, and what each comes to
   run : Host → List Stage → Case
 
+-- where queries and responses come from, and the address of interface 0
+abbrev pub querier : Endpoint
+querier =
+    record { address = record { family = 4; octets = 0xc0 ∷ 0x00 ∷ 0x02 ∷ 0x63 ∷ replicate 12 0 }; port = 49152 }
+
+abbrev pub ours : List ℕ
+ours = 0xc0 ∷ 0x00 ∷ 0x02 ∷ 0x11 ∷ replicate 12 0
+
 abbrev pub made : Host → Request → ℕ → Done
 made h starts time = start h S 0 0 time 9 buffer
 made h ticks time = tick h S 0 time 77 buffer
+made h (hears datagram) time =
+    receive h
+    (record {
+      table = S;
+      interface = 0;
+      from = querier;
+      to = record { family = 4; octets = ours };
+      datagram = datagram;
+      time = time;
+      id = 77;
+      out = buffer;
+    })
 
 abbrev pub Runs : Host → List Stage → Type 0
 Runs h [] = Unit
@@ -70,7 +91,7 @@ host state =
     record {
       interfaces =
           record {
-            setting = record { family = 4; address = 0xc0 ∷ 0x00 ∷ 0x02 ∷ 0x11 ∷ replicate 12 0; interval = 100 };
+            setting = record { family = 4; address = ours; interval = 100 };
             names = record { state = state } ∷ replicate 7 offName;
           }
           ∷ replicate 3 (freshInterface zeroSetting);
@@ -93,10 +114,6 @@ question28 = scale3 ++ (0x00 ∷ 0x1c ∷ 0x00 ∷ 0x01 ∷ [])
 abbrev pub query : ℕ → ℕ → ℕ → List ℕ → List ℕ
 query flags questions additionals q =
     (0x12 ∷ 0x34 ∷ flags ∷ 0x00 ∷ 0x00 ∷ questions ∷ 0x00 ∷ 0x00 ∷ 0x00 ∷ 0x00 ∷ 0x00 ∷ additionals ∷ []) ++ q
-
-abbrev pub querier : Endpoint
-querier =
-    record { address = record { family = 4; octets = 0xc0 ∷ 0x00 ∷ 0x02 ∷ 0x63 ∷ replicate 12 0 }; port = 49152 }
 
 abbrev pub arrival : List ℕ → Arrival
 arrival datagram =
@@ -147,9 +164,29 @@ abbrev pub asked : List ℕ → Arrival
 asked t =
     record { table = t; interface = 0; from = querier; to = groupOf 4; datagram = query 0x00 1 0 question28; time = 8; id = 77; out = buffer }
 
+-- a response to the query of a start: ID 00 09, T clear, so many answers, and then what stands after the question
+abbrev pub response : ℕ → List ℕ → List ℕ
+response answers rest =
+    (0x00 ∷ 0x09 ∷ 0x80 ∷ 0x00 ∷ 0x00 ∷ 0x01 ∷ 0x00 ∷ answers ∷ 0x00 ∷ 0x00 ∷ 0x00 ∷ 0x00 ∷ []) ++ scale3 ++ (0x00 ∷ 0xff ∷ 0x00 ∷ 0x01 ∷ []) ++ rest
+
+-- A 192.0.2.99 of scale3, with the first and the last octet of its TTL
+abbrev pub lasting : ℕ → ℕ → List ℕ
+lasting high low =
+    0xc0 ∷ 0x0c ∷ 0x00 ∷ 0x01 ∷ 0x00 ∷ 0x01 ∷ high ∷ 0x00 ∷ 0x00 ∷ low ∷ 0x00 ∷ 0x04 ∷ 0xc0 ∷ 0x00 ∷ 0x02 ∷ 0x63 ∷ []
+
 -- a host that is set up and no more
 abbrev pub fresh : Host
 fresh = record { interfaces = host Off .interfaces; clock = 0 }
+
+-- started at 0, stopped at 5 by a response: a start at a time is 21, and a millisecond later it asks again
+abbrev pub lost : List ℕ → ℕ → Case
+lost datagram time =
+    run fresh
+    (record { request = starts; time = 0; result = queried 0 24 }
+    ∷ record { request = hears datagram; time = 5; result = stopped 0 }
+    ∷ record { request = starts; time = time; result = refused (number 21) }
+    ∷ record { request = starts; time = time + 1; result = queried 0 24 }
+    ∷ [])
 
 abbrev pub cases : List Case
 cases =
@@ -190,5 +227,17 @@ cases =
     ∷ record { request = ticks; time = 100; result = queried 0 24 }
     ∷ record { request = ticks; time = 200; result = queried 0 24 }
     ∷ record { request = ticks; time = 300; result = unique 0 }
+    ∷ [])
+    -- stopped at 5 by a response whose first answer has TTL 30: a start at 30,004 is 21, at 30,005 it asks
+    ∷ lost (response 2 (lasting 0x00 30 ++ lasting 0x00 60)) 30004
+    -- TTL 2: the same at 2,004 and 2,005
+    ∷ lost (response 1 (lasting 0x00 2)) 2004
+    -- with no answer: as with 30, whatever stands after the question
+    ∷ lost (response 0 (lasting 0x00 60)) 30004
+    -- the TTL's top bit is set: it asks in the same millisecond
+    ∷ run fresh
+    (record { request = starts; time = 0; result = queried 0 24 }
+    ∷ record { request = hears (response 1 (lasting 0x80 30)); time = 5; result = stopped 0 }
+    ∷ record { request = starts; time = 5; result = queried 0 24 }
     ∷ [])
     ∷ []
