@@ -106,6 +106,7 @@ enum {
     LLMNR_REFUSAL_RECORDS = 18,      /* lookup: a bad answer record */
     LLMNR_REFUSAL_BUSY = 19,         /* start of a name that is neither Off nor Stopped */
     LLMNR_REFUSAL_SETTINGS = 20,     /* an interface has a group address, or a bad interval */
+    LLMNR_REFUSAL_TOO_SOON = 21,     /* start of a Stopped name before its `due` */
     LLMNR_REFUSAL_SEVERAL_LABELS = 22 /* lookup start: the name has several labels, and there is no permission */
 };
 
@@ -127,7 +128,7 @@ enum {
     LLMNR_STATE_VERIFYING = 1, /* sends, id, due */
     LLMNR_STATE_UNIQUE = 2,
     LLMNR_STATE_DEFENDING = 3, /* id, qtype, qclass, due */
-    LLMNR_STATE_STOPPED = 4,
+    LLMNR_STATE_STOPPED = 4,   /* due */
     LLMNR_STATE_SHARED = 5
 };
 
@@ -138,7 +139,7 @@ typedef struct llmnr_name {
     uint16_t id;     /* of the query that waits for responses; its type and class */
     uint16_t qtype;
     uint16_t qclass;
-    uint64_t due;    /* when to tick */
+    uint64_t due;    /* when to tick; of a Stopped name: from when on it may be started again */
 } llmnr_name;
 
 /* The names of one interface, in the table's order. */
@@ -188,7 +189,13 @@ typedef struct llmnr_set_up_step {
 /* Makes a host, with all names Off: READY, or refused (2, 4, 20). A refused one is all zero. It needs no buffer. */
 llmnr_set_up_step llmnr_set_up(const uint8_t *table, size_t table_len, llmnr_settings settings, uint64_t time, uint16_t id);
 
-/* Begins to use a name of the table on an interface. A unique one: QUERY, to be sent. A shared one: SHARED. */
+/*
+ * Begins to use a name of the table on an interface. A unique one: QUERY, to be sent. A shared one: SHARED. Or refused (1 to 4, 12, 19, 21).
+ *
+ * A Stopped name may be started again from its `due` on, and is refused with 21 before that (RFC 4795, section 4.2). Its `due` is the time
+ * of the response that stopped it, plus the TTL of the response's first answer record, or 30 seconds if there is no answer or the first
+ * cannot be read. A TTL with its top bit set counts as 0. A `due` after LLMNR_LATEST is never reached.
+ */
 llmnr_step llmnr_start(llmnr_settings settings, uint64_t clock, llmnr_names names, const uint8_t *table, size_t table_len,
                        size_t interface, size_t name, uint64_t time, uint16_t id, uint8_t *out, size_t out_len);
 

@@ -39,6 +39,9 @@ static const char help[] =
     "owned), unique (owned), defending (owned; somebody told of a conflict), stopped (another host has it; it may no\n"
     "longer be used here), shared (in use with others). Ends on SIGINT and SIGTERM.\n"
     "\n"
+    "A stopped name is not tried again. The program started anew knows nothing of that and tries it at once: wait until\n"
+    "the TTL of the other host's answer has run out, which is 30 s as a rule (RFC 4795, section 4.2).\n"
+    "\n"
     "exit status: 0 ended by a signal   2 usage   3 table cannot be read   4 table is bad   5 no such network interface\n"
     "  6 it is down, has no link or no address that can be used   7 more than 4 addresses   8 UDP port 5355 is taken by\n"
     "  another program   9 the system lacks something (sockets, group, random numbers)   10 a query could not be sent, or\n"
@@ -168,6 +171,7 @@ static void set_up(indicator *me)
     me->host = step.host;
 }
 
+/* Starts each name once. All are Off, so that no start is too soon; one that stops later is not started again. */
 static void start_names(indicator *me)
 {
     size_t i, number;

@@ -1,4 +1,4 @@
-/* What the tests in C share: a count of checks, a table and a datagram. What is inline need not be used. */
+/* What the tests in C share: a count of checks, a table, a datagram and a record. What is inline need not be used. */
 #ifndef CHECK_H
 #define CHECK_H
 
@@ -46,6 +46,17 @@ static inline void make_query(uint8_t *datagram, uint16_t id, uint16_t flags, un
         1, (uint8_t)('a' + k), 0, 0, 1, 0, 1,
     };
     memcpy(datagram, octets, sizeof octets);
+}
+
+/* An A record of the name that the question asks for: its TTL, and 192.0.2.17; 16 octets. */
+enum { RECORD = 16 };
+
+static inline void make_record(uint8_t *record, uint32_t ttl)
+{
+    const uint8_t octets[RECORD] = {
+        0xC0, 12, 0, 1, 0, 1, (uint8_t)(ttl >> 24), (uint8_t)(ttl >> 16), (uint8_t)(ttl >> 8), (uint8_t)ttl, 0, 4, 192, 0, 2, 17,
+    };
+    memcpy(record, octets, sizeof octets);
 }
 
 #endif

@@ -7,7 +7,7 @@
 enum { CONFLICT = 0x0400, TENTATIVE = 0x0100, RESPONSE = 0x8000 };
 
 /* Where things stand in a query: the low octet of each of these, the flags, and the label of the name. */
-enum { ID = 1, FLAGS = 2, QDCOUNT = 5, LABEL = 12, TYPE = 16, CLASS = 18 };
+enum { ID = 1, FLAGS = 2, QDCOUNT = 5, ANCOUNT = 7, LABEL = 12, TYPE = 16, CLASS = 18 };
 
 static const llmnr_address group = {4, {224, 0, 0, 252}};
 static const llmnr_address ours = {4, {192, 0, 2, 17}};
@@ -151,7 +151,59 @@ static void outcomes(void)
     llmnr_take(&h, 1, s);
     s = receives(h, lower, ours, QUERY, 6);
     CHECK(says(s.outcome, LLMNR_STOPPED) && s.outcome.name == 5);
-    CHECK(s.changed && s.name.state == LLMNR_STATE_STOPPED && s.name.id == 0);
+    CHECK(s.changed && s.name.state == LLMNR_STATE_STOPPED && s.name.sends == 0 && s.name.id == 0 && s.name.due == 30006);
+}
+
+/* ---- a Stopped name: its due time, and 21 before it */
+
+/* A response at 500, with ANCOUNT and a record of which so many octets are there, stops a name that is then due at a time. */
+static void rests(uint8_t answers, uint32_t ttl, size_t octets, uint64_t due)
+{
+    uint8_t response[QUERY + RECORD];
+    llmnr_host h = in_state(LLMNR_STATE_VERIFYING);
+    make_query(response, 0x1234, RESPONSE, 5);
+    make_record(response + QUERY, ttl);
+    response[TYPE] = 255;
+    response[ANCOUNT] = answers;
+    llmnr_step s = llmnr_receive(h.settings, h.clock, h.interfaces[1], table, sizeof table, 1, higher, ours, response, QUERY + octets, 500,
+                                 7, out, sizeof out);
+    CHECK(says(s.outcome, LLMNR_STOPPED) && s.outcome.name == 5 && s.name.state == LLMNR_STATE_STOPPED && s.name.due == due);
+    llmnr_take(&h, 1, s);
+    CHECK(due == 500 || refused(starts(h, 5, 500, 9).outcome, LLMNR_REFUSAL_TOO_SOON));
+    CHECK(due == 500 || refused(starts(h, 5, due - 1, 9).outcome, LLMNR_REFUSAL_TOO_SOON));
+    s = starts(h, 5, due, 9);
+    CHECK(says(s.outcome, LLMNR_QUERY) && s.clock == due && s.name.state == LLMNR_STATE_VERIFYING && s.name.due == due + 100);
+}
+
+static void stopped(void)
+{
+    rests(1, 30, RECORD, 30500);
+    rests(1, 1, RECORD, 1500);
+    rests(1, 0, RECORD, 500);
+    rests(1, 0x7FFFFFFF, RECORD, UINT64_C(2147483647500));
+    rests(1, 0x80000000, RECORD, 500);
+    rests(1, 0xFFFFFFFF, RECORD, 500);
+    rests(2, 1, RECORD, 1500);
+    rests(0, 1, RECORD, 30500);
+    rests(0, 1, 0, 30500);
+    rests(1, 1, 0, 30500);
+    rests(1, 1, RECORD - 1, 30500);
+
+    /* Which checks come before 21; that a refused start moves no clock; that a tick does not serve the name, and its kind does not matter. */
+    llmnr_host h = in_state(LLMNR_STATE_STOPPED);
+    h.clock = 998;
+    llmnr_step s = starts(h, 5, 999, 9);
+    CHECK(refused(s.outcome, LLMNR_REFUSAL_TOO_SOON) && s.clock == 998 && !s.changed);
+    CHECK(refused(starts(h, 5, 997, 9).outcome, LLMNR_REFUSAL_CLOCK));
+    s = llmnr_start(h.settings, h.clock, h.interfaces[1], table, 5 * ENTRIES / LLMNR_NAMES, 1, 5, 999, 9, out, sizeof out);
+    CHECK(refused(s.outcome, LLMNR_REFUSAL_NOT_OURS));
+    s = ticks(h, 1000);
+    CHECK(says(s.outcome, LLMNR_QUIET) && !s.changed);
+    h.interfaces[1].names[7] = h.interfaces[1].names[5];
+    CHECK(refused(starts(h, 7, 999, 9).outcome, LLMNR_REFUSAL_TOO_SOON));
+    CHECK(says(starts(h, 7, 1000, 9).outcome, LLMNR_SHARED));
+    h.interfaces[1].names[5].due = LLMNR_LATEST + 1;
+    CHECK(refused(starts(h, 5, LLMNR_LATEST, 9).outcome, LLMNR_REFUSAL_TOO_SOON));
 }
 
 /* ---- refusals of a host, 1 to 16 and 20 */
@@ -220,11 +272,10 @@ static void longest(void)
 
 static llmnr_lookup_step answered(llmnr_lookup l, uint16_t flags, uint8_t answers, uint64_t time)
 {
-    uint8_t response[QUERY + 16] = {0};
-    static const uint8_t record[16] = {0xC0, 12, 0, 1, 0, 1, 0, 0, 0, 30, 0, 4, 192, 0, 2, 17};
+    uint8_t response[QUERY + RECORD];
     make_query(response, 0x1234, (uint16_t)(RESPONSE | flags), 5);
-    response[7] = answers;
-    memcpy(response + QUERY, record, sizeof record);
+    make_record(response + QUERY, 30);
+    response[ANCOUNT] = answers;
     return llmnr_lookup_receive(l, lower, ours, response, sizeof response, time, 7, out, sizeof out);
 }
 
@@ -290,6 +341,7 @@ int main(void)
     states();
     defence();
     outcomes();
+    stopped();
     refusals();
     longest();
     lookups();

@@ -18,7 +18,7 @@ typedef struct call {
     size_t interface, name, room;
     llmnr_endpoint from;
     llmnr_address to;
-    uint8_t datagram[QUERY];
+    uint8_t datagram[QUERY + RECORD];
     uint64_t time;
     uint16_t id;
 } call;
@@ -29,9 +29,15 @@ typedef struct given {
     uint8_t out[LLMNR_ROOM];
 } given;
 
-/* What the pairs have reached: by the first call's kind, and how often both have changed a name. */
+enum { BEFORE, AT, AFTER, TIMES };
+
+/*
+ * What the pairs have reached: by the first call's kind, and how often both have changed a name; first calls that start a Stopped name
+ * before, at and after its due time, and those that stop a name, by whether it is then due in 30 seconds.
+ */
 typedef struct counts {
     unsigned accepted[KINDS], refused[KINDS], both_changed;
+    unsigned again[TIMES], stopped[2];
 } counts;
 
 static unsigned pick(unsigned n)
@@ -63,10 +69,14 @@ static llmnr_host any_host(void)
     return h;
 }
 
-/* A call at a time: a datagram is a query with C clear or set, or a response with T clear or set. */
+/*
+ * A call at a time: a datagram is a query with C clear or set, or a response with T clear or set and no answer or one. Octets behind the
+ * question of a query are not read.
+ */
 static call any_call(size_t interface, uint64_t time)
 {
     const uint16_t flags[4] = {0, 0x0400, 0x8000, 0x8100};
+    const uint32_t ttls[4] = {0, 1, 0x7FFFFFFF, 0x80000000};
     const llmnr_address group = {4, {224, 0, 0, 252}}, ours = {4, {192, 0, 2, 17}};
     const llmnr_endpoint below = {{4, {192, 0, 2, 5}}, 5355}, above = {{4, {192, 0, 2, 99}}, 5355};
     const uint16_t picked = flags[pick(4)];
@@ -82,6 +92,8 @@ static call any_call(size_t interface, uint64_t time)
     c.to = picked < 0x8000 ? group : ours;
     make_query(c.datagram, c.id, picked, pick(3));
     c.datagram[16] = pick(2) == 0 ? 1 : 255;
+    c.datagram[7] = picked < 0x8000 ? 0 : (uint8_t)pick(2);
+    make_record(c.datagram + QUERY, ttls[pick(4)]);
     return c;
 }
 
@@ -99,8 +111,8 @@ static given make(llmnr_host *h, const call *c)
     else if (c->kind == TICK)
         g.step = llmnr_tick(h->settings, h->clock, n, table, sizeof table, c->interface, c->time, c->id, g.out, c->room);
     else
-        g.step = llmnr_receive(h->settings, h->clock, n, table, sizeof table, c->interface, c->from, c->to, c->datagram, QUERY, c->time,
-                               c->id, g.out, c->room);
+        g.step = llmnr_receive(h->settings, h->clock, n, table, sizeof table, c->interface, c->from, c->to, c->datagram,
+                               sizeof c->datagram, c->time, c->id, g.out, c->room);
     llmnr_take(h, c->interface, g.step);
     return g;
 }
@@ -118,13 +130,27 @@ static int same_given(const given *a, const given *b)
         && memcmp(a->out, b->out, sizeof a->out) == 0;
 }
 
+/* Counts what the first call has come to. A start of a Stopped name is too soon exactly before its due time, if no other check fails. */
+static void count(const llmnr_host *h, const call *c, const llmnr_step *s, counts *reached)
+{
+    (s->outcome.what == LLMNR_REFUSED ? reached->refused : reached->accepted)[c->kind]++;
+    if (s->outcome.what == LLMNR_STOPPED)
+        reached->stopped[s->name.due == c->time + 30000]++;
+    if (c->kind != START || c->interface >= LLMNR_INTERFACES || (s->outcome.refusal != 0 && s->outcome.refusal != LLMNR_REFUSAL_TOO_SOON))
+        return;
+    const llmnr_name *n = &h->interfaces[c->interface].names[c->name];
+    CHECK((s->outcome.refusal != 0) == (n->state == LLMNR_STATE_STOPPED && c->time < n->due));
+    if (n->state == LLMNR_STATE_STOPPED)
+        reached->again[c->time < n->due ? BEFORE : c->time == n->due ? AT : AFTER]++;
+}
+
 /* Whether two calls give the same in either order; what they come to is counted. */
 static int either_order(const llmnr_host *h, const call *c, const call *e, counts *reached)
 {
     llmnr_host one = *h, other = *h;
     given first = make(&one, c), then = make(&one, e);
     given early = make(&other, e), late = make(&other, c);
-    (first.step.outcome.what == LLMNR_REFUSED ? reached->refused : reached->accepted)[c->kind]++;
+    count(h, c, &first.step, reached);
     reached->both_changed += first.step.changed && early.step.changed;
     return memcmp(&one, &other, sizeof one) == 0 && same_given(&first, &late) && same_given(&then, &early);
 }
@@ -147,6 +173,9 @@ int main(void)
     }
     for (unsigned kind = 0; kind < KINDS; kind++)
         CHECK(apart.accepted[kind] > PAIRS / 50 && apart.refused[kind] > PAIRS / 50);
+    for (unsigned when = 0; when < TIMES; when++)
+        CHECK(apart.again[when] > PAIRS / 200);
+    CHECK(apart.stopped[0] > PAIRS / 2000 && apart.stopped[1] > PAIRS / 2000);
     CHECK(apart.both_changed > PAIRS / 50 && matters > PAIRS / 50);
     return told("orders");
 }

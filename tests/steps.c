@@ -133,14 +133,60 @@ static void kept_name(unsigned i, unsigned k, uint8_t state)
     }
 }
 
-/* A start: the name has new values in every field, and any number that is no state's has counted as Off. */
+/* A start that passes: the name has new values in every field. */
+static void begins(llmnr_host h, unsigned i, unsigned k, uint64_t time)
+{
+    llmnr_name shared = name_of(LLMNR_STATE_SHARED, 0, 0, 0, 0, 0);
+    llmnr_name verifying = name_of(LLMNR_STATE_VERIFYING, 1, 0xABCD, 0, 0, time + 1000);
+    gives(starts(h, i, k, time), time, k == 7 ? LLMNR_SHARED : LLMNR_QUERY, k, k == 7 ? &shared : &verifying);
+}
+
+/* Of an Off name all other fields may be anything, and any number that is no state's counts as Off. */
 static void started_name(unsigned i, unsigned k, uint8_t state)
 {
     llmnr_host h = any_host(i);
     h.interfaces[i].names[k] = any_name(state);
-    llmnr_name shared = name_of(LLMNR_STATE_SHARED, 0, 0, 0, 0, 0);
-    llmnr_name verifying = name_of(LLMNR_STATE_VERIFYING, 1, 0xABCD, 0, 0, h.clock + 1002);
-    gives(starts(h, i, k, h.clock + 2), h.clock + 2, k == 7 ? LLMNR_SHARED : LLMNR_QUERY, k, k == 7 ? &shared : &verifying);
+    begins(h, i, k, h.clock + 2);
+}
+
+/* Every bit of the due time of a Stopped name goes in: before it a start is refused, from it on it passes. */
+static void stopped_name(unsigned i, unsigned k)
+{
+    llmnr_host h = any_host(i);
+    llmnr_name *n = &h.interfaces[i].names[k];
+    const uint64_t time = h.clock + (value() >> 20);
+    *n = any_name(LLMNR_STATE_STOPPED);
+    n->due = time;
+    begins(h, i, k, time);
+    for (unsigned bit = 0; bit < 64; bit++) {
+        n->due = time ^ UINT64_C(1) << bit;
+        if (n->due < time) {
+            begins(h, i, k, time);
+            continue;
+        }
+        llmnr_step s = starts(h, i, k, time);
+        gives(s, h.clock, LLMNR_REFUSED, 0, NULL);
+        CHECK(s.outcome.refusal == LLMNR_REFUSAL_TOO_SOON);
+    }
+}
+
+/* Every bit of the TTL of a response's answer comes out in the due time of the name that it stops; with its top bit set it counts as 0. */
+static void lost_name(unsigned i, unsigned k, uint32_t ttl)
+{
+    uint8_t response[QUERY + RECORD];
+    llmnr_endpoint from = {{4, {9, 255, 255, 255}}, 5355};
+    llmnr_address to = {4, {192, 0, 2, 17}};
+    llmnr_host h = any_host(i);
+    llmnr_name *n = &h.interfaces[i].names[k];
+    const uint64_t time = h.clock + 5;
+    *n = any_name(k % 2 == 0 ? LLMNR_STATE_VERIFYING : LLMNR_STATE_DEFENDING);
+    make_response(response, *n, k);
+    make_record(response + QUERY, ttl);
+    response[7] = 1;
+    llmnr_name stopped = name_of(LLMNR_STATE_STOPPED, 0, 0, 0, 0, ttl >> 31 == 0 ? time + UINT64_C(1000) * ttl : time);
+    gives(llmnr_receive(h.settings, h.clock, h.interfaces[i], table, sizeof table, i, from, to, response, sizeof response, time, 0xABCD, out,
+                        sizeof out),
+          time, LLMNR_STOPPED, k, &stopped);
 }
 
 /* A tick: sends, ID and due time of a Verifying name go in and come out, and the due time of a Defending one goes in. */
@@ -161,7 +207,10 @@ static void due_name(unsigned i, unsigned k, uint8_t state, uint8_t sends)
     }
 }
 
-/* A conflict notification: the ID of the call, and type and class of the question, come out; a response then stops the name. */
+/*
+ * A conflict notification: the ID of the call, and type and class of the question, come out; a response without an answer then stops the
+ * name, which is due 30 seconds after it.
+ */
 static void defended_name(unsigned i, unsigned k, uint8_t class)
 {
     uint8_t query[QUERY];
@@ -173,13 +222,13 @@ static void defended_name(unsigned i, unsigned k, uint8_t class)
     query[15] = (uint8_t)(value() >> 56), query[16] = (uint8_t)(value() >> 56), query[18] = class;
     uint16_t type = (uint16_t)(query[15] << 8 | query[16]);
     llmnr_name defending = name_of(LLMNR_STATE_DEFENDING, 0, 0xABCD, type, class, h.clock + 1003);
-    llmnr_name stopped = name_of(LLMNR_STATE_STOPPED, 0, 0, 0, 0, 0);
+    llmnr_name stopped = name_of(LLMNR_STATE_STOPPED, 0, 0, 0, 0, h.clock + 4 + 30000);
     llmnr_step s = receives(h, i, from, group, query, h.clock + 3);
     gives(s, h.clock + 3, LLMNR_QUERY, k, &defending);
     CHECK(s.to.address.family == 4 && memcmp(s.to.address.octets, group.octets, 16) == 0 && s.to.port == LLMNR_PORT);
     llmnr_take(&h, i, s);
     make_response(query, defending, k);
-    gives(receives(h, i, from, to, query, h.clock + 4), h.clock + 4, LLMNR_STOPPED, k, &stopped);
+    gives(receives(h, i, from, to, query, h.clock + 1), h.clock + 1, LLMNR_STOPPED, k, &stopped);
 }
 
 static void hosts(void)
@@ -190,7 +239,11 @@ static void hosts(void)
             kept_name(i, k, LLMNR_STATE_VERIFYING);
             kept_name(i, k, LLMNR_STATE_DEFENDING);
             started_name(i, k, LLMNR_STATE_OFF);
-            started_name(i, k, LLMNR_STATE_STOPPED);
+            stopped_name(i, k);
+            for (unsigned bit = 0; bit < 32; bit++) {
+                lost_name(i, k, UINT32_C(1) << bit);
+                lost_name(i, k, (uint32_t)(value() >> 32));
+            }
             for (unsigned other = LLMNR_STATE_SHARED + 1; other < 256; other += 7)
                 started_name(i, k, (uint8_t)other);
             for (unsigned sends = 0; sends < 256; sends++)

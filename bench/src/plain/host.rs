@@ -56,8 +56,11 @@ pub fn start(host: &mut Host, call: &Call, name: usize, out: &mut [u8]) -> Serve
     }
     let interface = &mut host.interfaces[call.interface];
     let state = &mut interface.names[name];
-    if !matches!(state, NameState::Off | NameState::Stopped) {
-        return Err(Refusal::Busy);
+    match *state {
+        NameState::Off => {}
+        NameState::Stopped { until } if until <= call.time => {}
+        NameState::Stopped { .. } => return Err(Refusal::TooSoon),
+        _ => return Err(Refusal::Busy),
     }
     host.clock = call.time;
     if names.is_shared(name) {
@@ -110,7 +113,7 @@ pub fn receive(host: &mut Host, call: &Call, arrival: &Arrival, out: &mut [u8]) 
     let name = found.ok_or(Refusal::NotOurs)?;
     let flags = match host.interfaces[call.interface].names[name] {
         NameState::Off => return Err(Refusal::NotOurs),
-        NameState::Stopped => return Err(Refusal::Stopped),
+        NameState::Stopped { .. } => return Err(Refusal::Stopped),
         NameState::Unique if message.is_conflict() => return defend(host, call, arrival, &message, name, out),
         _ if message.is_conflict() => return Err(Refusal::Notification),
         NameState::Shared => 0x0400,
@@ -148,7 +151,8 @@ fn hear(host: &mut Host, call: &Call, arrival: &Arrival, message: &Message, name
     if !lost && !source.is_below(&interface.setting.address) {
         return silent(Outcome::Kept { name });
     }
-    host.interfaces[call.interface].names[name] = NameState::Stopped;
+    let until = call.time + message.rest(arrival.octets);
+    host.interfaces[call.interface].names[name] = NameState::Stopped { until };
     silent(Outcome::Stopped { name })
 }
 

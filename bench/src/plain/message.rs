@@ -9,6 +9,8 @@ use super::table::Records;
 const HEADER: usize = 12;
 const LONGEST_DATAGRAM: usize = 9_194;
 const TTL_SECONDS: u8 = 30;
+/// Milliseconds that a lost name rests if no answer says how long.
+const REST: u64 = 30_000;
 
 pub const IN: u16 = 1;
 /// The type that asks for all types, and the class that asks for all classes.
@@ -53,6 +55,13 @@ impl<'a> Message<'a> {
     #[inline]
     pub fn end(&self) -> usize {
         HEADER + self.question.octets.len()
+    }
+
+    /// How many milliseconds a name that this response has taken rests: by the TTL of its first answer.
+    #[inline]
+    pub fn rest(&self, octets: &[u8]) -> u64 {
+        let first = if self.answers == 0 { None } else { read_record(octets, self.end()) };
+        first.map_or(REST, |(ttl, _)| if ttl < 1 << 31 { u64::from(ttl) * 1_000 } else { 0 })
     }
 
     /// Reads a datagram that came to an interface of a family.
@@ -103,21 +112,22 @@ fn read_question(rest: &[u8]) -> Option<Question<'_>> {
 pub fn has_records(message: &[u8], start: usize, count: u16) -> bool {
     let mut at = start;
     for _ in 0..count {
-        match record_end(message, at) {
-            Some(end) => at = end,
+        match read_record(message, at) {
+            Some((_, end)) => at = end,
             None => return false,
         }
     }
     true
 }
 
-/// The offset after the resource record at an offset: owner name, ten fixed octets, data.
+/// The resource record at an offset (owner name, ten fixed octets, data): its TTL, and the offset after it.
 #[inline]
-fn record_end(message: &[u8], at: usize) -> Option<usize> {
+fn read_record(message: &[u8], at: usize) -> Option<(u32, usize)> {
     let owner = names::read_record_name(message, at)?;
     let fixed = message.get(owner.next..owner.next + 10)?;
+    let ttl = u32::from_be_bytes([fixed[4], fixed[5], fixed[6], fixed[7]]);
     let end = owner.next + 10 + usize::from(word(fixed, 8));
-    (end <= message.len()).then_some(end)
+    (end <= message.len()).then_some((ttl, end))
 }
 
 /// Writes a query for the question whose octets these are, and gives its length.

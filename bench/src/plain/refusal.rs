@@ -22,6 +22,7 @@ pub enum Refusal {
     Records,
     Busy,
     Settings,
+    TooSoon,
     SeveralLabels,
 }
 
@@ -48,6 +49,7 @@ impl Refusal {
             Refusal::Records => 18,
             Refusal::Busy => 19,
             Refusal::Settings => 20,
+            Refusal::TooSoon => 21,
             Refusal::SeveralLabels => 22,
         }
     }

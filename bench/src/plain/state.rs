@@ -118,7 +118,10 @@ pub enum NameState {
         qclass: u16,
         due: u64,
     },
-    Stopped,
+    /// Not to be started again before.
+    Stopped {
+        until: u64,
+    },
     Shared,
 }
 

@@ -218,7 +218,7 @@ impl From<plain::NameState> for Name {
             plain::NameState::Verifying { sends, id, due } => Name { sends, id, due, ..bare(1) },
             plain::NameState::Unique => bare(2),
             plain::NameState::Defending { id, qtype, qclass, due } => Name { id, qtype, qclass, due, ..bare(3) },
-            plain::NameState::Stopped => bare(4),
+            plain::NameState::Stopped { until } => Name { due: until, ..bare(4) },
             plain::NameState::Shared => bare(5),
         }
     }
@@ -230,7 +230,7 @@ impl From<Name> for plain::NameState {
             1 => plain::NameState::Verifying { sends, id, due },
             2 => plain::NameState::Unique,
             3 => plain::NameState::Defending { id, qtype, qclass, due },
-            4 => plain::NameState::Stopped,
+            4 => plain::NameState::Stopped { until: due },
             5 => plain::NameState::Shared,
             _ => plain::NameState::Off,
         }
