@@ -12,6 +12,7 @@ from xml.sax.saxutils import escape
 WIDTH, HEIGHT = 1300, 590
 BOX_WIDTH, BOX_HEIGHT = 180, 70
 LINE = 18  # between two lines of a label
+NOTE, LAST_NOTE = 22, 566  # between two notes, and where the last one stands
 
 INK = "#1f2933"
 EVENT = "#1f2933"
@@ -49,15 +50,16 @@ STATES = Diagram(
         ([(480, 185), (480, 125), (580, 125), (580, 185)], ("middle", 530, 93), ["tick when due, below 3 sends"], ["query sent again"]),
         ([(620, 220), (760, 220)], ("middle", 686, 192), ["tick when due,", "at 3 sends"], []),
         ([(575, 255), (575, 415)], ("start", 587, 322), ["response with T clear,", "or with T set from below"], []),
-        ([(485, 415), (485, 255)], ("end", 473, 322), ["start, unique name"], ["query sent"]),
+        ([(485, 415), (485, 255)], ("end", 473, 322), ["start, unique name,", "once its time has come"], ["query sent"]),
         ([(940, 200), (1100, 200)], ("middle", 1018, 154), ["conflict notification", "(C set), not from us"], ["query sent"]),
         ([(1100, 242), (940, 242)], ("middle", 1022, 264), ["tick when due"], []),
         ([(1190, 255), (1190, 450), (620, 450)], ("middle", 905, 440), ["response from below"], []),
-        ([(440, 450), (220, 450)], ("middle", 334, 440), ["start, shared name"], []),
+        ([(440, 450), (220, 450)], ("middle", 334, 422), ["start, shared name,", "once its time has come"], []),
     ],
     notes=[
         "Events that are not drawn leave the state as it is. Response: one that the name waits for, not from us. From below: its source is below",
-        "the interface's own address. Set-up makes every name Off again, whatever its state.",
+        "the interface's own address. Its time: when the TTL of the response that stopped the name has run out, or 30 s after one that gives no TTL;",
+        "before that a start is refused with 21. Set-up makes every name Off again, whatever its state.",
     ],
     legend=[(700, GREEN, "owns the name"), (860, YELLOW, "answers, without owning it"), (1104, GREY, "does not answer")],
 )
@@ -133,8 +135,9 @@ def drawing(diagram):
     for x, colour, words in diagram.legend:
         out.append(f'<rect x="{x}" y="28" width="18" height="18" rx="4" fill="{colour}" stroke="{INK}" stroke-width="1"/>')
         out.append(text(x + 26, 42, words, "start", 13))
+    first = LAST_NOTE - NOTE * (len(diagram.notes) - 1)
     for i, words in enumerate(diagram.notes):
-        out.append(text(30, 544 + 22 * i, words, "start", 13))
+        out.append(text(30, first + NOTE * i, words, "start", 13))
     out.append("</svg>")
     return "\n".join(out) + "\n"
 

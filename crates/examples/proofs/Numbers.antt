@@ -7,10 +7,10 @@ use Rattle.message.specs.Header.{headerOf}
 use Rattle.examples.specs.Numbers.{OfTheHost, OfMessages, OfWords, OfFlags, OfNames, OfAddresses, OfTables}
 
 pub numbers-of-the-host : OfTheHost
-numbers-of-the-host = (refl, refl, refl, refl, refl, refl, refl, refl, refl)
+numbers-of-the-host = (refl, refl, refl, refl, refl, refl, refl, refl, refl, refl, refl)
 
 pub numbers-of-messages : OfMessages
-numbers-of-messages = (refl, refl, refl, refl, refl, refl)
+numbers-of-messages = (refl, refl, refl, refl, refl, refl, refl)
 
 pub words : OfWords
 words = (refl, refl, refl, refl)

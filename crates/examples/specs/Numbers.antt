@@ -1,6 +1,6 @@
 -- The numbers of the papers, as they print them. The constants of the definitions are these; and each contract that cites a definition
 -- ties the constant of the code to it.
-use Prim.Native.Nat.{ℕ, _+_, _-_, _^_}
+use Prim.Native.Nat.{ℕ, _+_, _-_, _*_, _^_}
 use mathlib.Core.Path.{_≡_}
 use mathlib.Core.List.{List, [], _∷_, _++_}
 use mathlib.Core.Bool.{true}
@@ -13,26 +13,26 @@ use Rattle.names.specs.Folding.{folded}
 use Rattle.name_table.specs.Bounds.{longestTable, mostNames, mostRecords, entryHead}
 use Rattle.name_table.specs.Kinds.{kindOf}
 use Rattle.name_table.specs.declared.Kind.the-variants.{Unique, Shared, Octets, Target, Unknown}
-use Rattle.message.specs.Bounds.{headerOctets, fixedOctets, ownerOctets, classIN, typeANY, replyTTL}
+use Rattle.message.specs.Bounds.{headerOctets, fixedOctets, ownerOctets, classIN, typeANY, replyTTL, topBit}
 use Rattle.message.specs.declared.Header.{Header}
 use Rattle.message.specs.Header.{headerOf}
-use Rattle.host.specs.Bounds.{room, replyLimit, latest, shortest, longest, short, long, sendsInAll, anyClass}
+use Rattle.host.specs.Bounds.{room, replyLimit, latest, shortest, longest, short, long, sendsInAll, anyClass, second, restWithout}
 
 -- the header of a message whose flags are two octets, and all else zero
 abbrev pub flagged : ℕ → ℕ → Header
 flagged x y = headerOf ((0 ∷ 0 ∷ x ∷ y ∷ []) ++ replicate 8 0)
 
 -- a buffer below 512 octets; a record that would pass 512; a time above 2^48 - 1; a datagram below 12 or above 9,194; the interval is
--- 100 or 1,000 ms; three sends; query class neither 1 nor 255
+-- 100 or 1,000 ms; three sends; query class neither 1 nor 255. Of document 02, [6]: 1,000 ms to a second of a TTL; 30 s
 abbrev pub OfTheHost : Type 0
 OfTheHost =
     (room ≡ 512) × (replyLimit ≡ 512) × (latest ≡ 2 ^ 48 - 1) × (shortest ≡ 12) × (longest ≡ 9194) × (short ≡ 100)
-    × (long ≡ 1000) × (sendsInAll ≡ 3) × (anyClass ≡ 255)
+    × (long ≡ 1000) × (sendsInAll ≡ 3) × (anyClass ≡ 255) × (second ≡ 1000) × (restWithout ≡ 30 * 1000)
 
--- header of 12 octets; ten fixed octets of a record; C0 0C, two octets, as owner; class 1, type 255, TTL 30
+-- header of 12 octets; ten fixed octets of a record; C0 0C, two octets, as owner; class 1, type 255, TTL 30; the top bit of a 32-bit TTL
 abbrev pub OfMessages : Type 0
 OfMessages =
-    (headerOctets ≡ 12) × (fixedOctets ≡ 10) × (ownerOctets ≡ 2) × (classIN ≡ 1) × (typeANY ≡ 255) × (replyTTL ≡ 30)
+    (headerOctets ≡ 12) × (fixedOctets ≡ 10) × (ownerOctets ≡ 2) × (classIN ≡ 1) × (typeANY ≡ 255) × (replyTTL ≡ 30) × (topBit ≡ 2 ^ 31)
 
 -- big-endian words in a message, little-endian ones in a table: 258 is 1 * 256 + 2
 abbrev pub OfWords : Type 0

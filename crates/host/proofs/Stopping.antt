@@ -4,34 +4,30 @@ use Prim.Native.Nat.{ℕ, _+_, _<_}
 use mathlib.Core.Path.{_≡_, refl, sym, ap, _∙_, subst}
 use mathlib.Core.Logic.{_↔_, _≢_}
 use mathlib.Core.List.{List}
-use mathlib.Core.Bool.{true, false}
 use native.Mathlib.Omega.{arith}
 use lib.ListN.{length}
 use lib.Dec.{ltb, eqb}
 use borrow.Author.Tests.{ltb-true, ltb-false, lt-ltb, le-ltb, leb-false, eqb-true, eqb-false, eq-eqb, ne-eqb}
 use Rattle.octets.specs.Octets.{Octets}
 use Rattle.octets.proofs.Tests.{split}
-use Rattle.refusal.specs.Numbers.{Report, number}
+use Rattle.refusal.specs.Numbers.{number}
 use Rattle.refusal.specs.Checks.{Verdict, refused, passed, pass, verdict}
 use Rattle.refusal.proofs.Checks.{from-later, from-last}
 use Rattle.name_table.specs.Kinds.{kindOf, isSharedKind}
 use Rattle.name_table.specs.Check.{Held, namesIn, nameIn, checkTable}
 use Rattle.message.specs.Bounds.{topBit}
-use Rattle.message.specs.declared.ResourceRecord.{ResourceRecord}
 use Rattle.message.specs.declared.RecordRead.{RecordRead}
 use Rattle.message.specs.declared.RecordRead.the-variants.{Good, Bad}
 use Rattle.message.specs.Header.{headerOf}
 use Rattle.message.specs.Records.{recordAt, IsRecord}
 use Rattle.message.proofs.Records.{reads-a-record, reads-no-record}
 use Rattle.host.specs.State.{interfaceOf, stateOf, withState}
-use Rattle.host.specs.Outcomes.{Done, silent, stopped as stoppedName}
-use Rattle.host.specs.Outcomes.{refused as refusedWith}
-use Rattle.host.specs.Stopping.{firstAnswer, restBy, stoppedUntil, StopsUntil, by-ttl, top-bit-set, no-answer, bad-answer}
+use Rattle.host.specs.Outcomes.{Done, refused as refusedWith, silent, stopped as stoppedName}
+use Rattle.host.specs.Stopping.{restBy, stoppedUntil, StopsUntil, by-ttl, top-bit-set, no-answer, bad-answer}
 use Rattle.host.specs.Start.{startChecks, startIf, start}
 use Rattle.host.specs.Receive.{Arrival, receive}
 use Rattle.host.specs.ExactlyWhen.{CalledWell, StopsWhen}
 use Rattle.host.specs.Served.{TooSoonWhen}
-use Rattle.host.specs.declared.NameState.{NameState}
 use Rattle.host.specs.declared.NameState.the-variants.{Stopped}
 use Rattle.host.specs.declared.Host.{Host}
 use Rattle.host.proofs.Conditions.{soon-is}

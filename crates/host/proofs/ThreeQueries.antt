@@ -4,7 +4,7 @@ use mathlib.Core.Path.{_≡_, refl, sym, ap, _∙_, subst}
 use mathlib.Core.Logic.{_⊎_}
 use mathlib.Core.List.{List}
 use native.Mathlib.Omega.{arith}
-use lib.ListN.{length, getD, set, take, length-set, length-append}
+use lib.ListN.{length, set, take, length-set, length-append}
 use Rattle.octets.specs.Bounds.{ipv4, ipv6}
 use Rattle.octets.specs.Octets.{Octets, put}
 use Rattle.octets.specs.declared.Setting.{Setting}
@@ -14,7 +14,7 @@ use Rattle.name_table.specs.Check.{Held, checkTable, namesIn, nameIn}
 use Rattle.name_table.proofs.Held.{held-name}
 use Rattle.message.specs.Query.{queryOctets}
 use Rattle.host.specs.Bounds.{room, latest, sendsInAll}
-use Rattle.host.specs.State.{offName, absent, interfaceOf, settingOf, stateOf, withState, intervalOf, timerFrom}
+use Rattle.host.specs.State.{interfaceOf, settingOf, stateOf, withState, intervalOf, timerFrom}
 use Rattle.host.specs.Outcomes.{Done, silent, query, unique as uniqueName}
 use Rattle.host.specs.Asking.{checkQuery, asking}
 use Rattle.host.specs.ExactlyWhen.{CalledWell}
@@ -22,7 +22,6 @@ use Rattle.host.specs.Served.{DueBy, ServesWhen, HasAsked}
 use Rattle.host.specs.ThreeQueries.{Given, ticked as tickedWith, startOf, runOf, Served, ThreeQueries}
 use Rattle.host.specs.declared.NameState.{NameState}
 use Rattle.host.specs.declared.NameState.the-variants.{Off, Verifying, Unique, Defending, Stopped, Shared}
-use Rattle.host.specs.declared.Name.{Name}
 use Rattle.host.specs.declared.Interface.{Interface}
 use Rattle.host.specs.declared.Host.{Host}
 use Rattle.host.proofs.Laws.{other-names, changed-here, changed-name}

@@ -1,5 +1,5 @@
 -- Until when a stopped name is not tried again: where the time has passed check 4, nothing is lost in 64 bits.
-use Prim.Native.Nat.{ℕ, _+_, _<_, _≤_}
+use Prim.Native.Nat.{ℕ, _<_, _≤_}
 use mathlib.Core.Path.{_≡_}
 use mathlib.Core.List.{List}
 use native.Mathlib.Omega.{arith}
@@ -9,7 +9,7 @@ use Rattle.octets.proofs.Tests.{split}
 use Rattle.message.specs.Bounds.{topBit}
 use Rattle.message.specs.declared.RecordRead.{RecordRead}
 use Rattle.message.specs.declared.RecordRead.the-variants.{Good, Bad}
-use Rattle.host.specs.Bounds.{latest, second}
+use Rattle.host.specs.Bounds.{latest}
 use Rattle.host.specs.Stopping.{firstAnswer, restBy, stoppedUntil}
 use Rattle.responder.specs.Stopping.{untilBy}
 

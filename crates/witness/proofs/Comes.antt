@@ -19,13 +19,12 @@ use Rattle.message.specs.Question.{questionAt}
 use Rattle.message.specs.Query.{queryOctets, queryWith}
 use Rattle.message.proofs.Questions.{reads-a-question}
 use Rattle.message.proofs.Query.{query-length, query-plain}
-use Rattle.host.specs.State.{offName, absent, interfaceOf, settingOf, stateOf, withClock, withState}
+use Rattle.host.specs.State.{absent, interfaceOf, settingOf, withClock, withState}
 use Rattle.host.specs.Outcomes.{Result, Done, refusal, silent}
 use Rattle.host.specs.Asking.{checkQuery, asking}
 use Rattle.host.specs.Receive.{Arrival, questionIn}
 use Rattle.host.specs.ExactlyWhen.{IsUsed, CalledWell}
 use Rattle.host.specs.declared.NameState.{NameState}
-use Rattle.host.specs.declared.Name.{Name}
 use Rattle.host.specs.declared.Interface.{Interface}
 use Rattle.host.specs.declared.Host.{Host}
 use Rattle.host.proofs.Laws.{other-names, changed-here, changed-name}

@@ -13,7 +13,7 @@ use Rattle.host.specs.Receive.{Arrival}
 use Rattle.host.specs.State.{settingOf, stateOf, HasStopped}
 use Rattle.host.specs.declared.Host.{Host}
 use Rattle.host.specs.declared.NameState.{NameState}
-use Rattle.host.specs.declared.NameState.the-variants.{Off, Stopped}
+use Rattle.host.specs.declared.NameState.the-variants.{Off}
 use Rattle.witness.specs.Replies.{isShared, isVerifying}
 
 -- Two calls have the same table, source, time and buffer, and their datagrams the same ID and the same octets of the question. All else
