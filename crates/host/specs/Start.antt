@@ -23,11 +23,11 @@ isIdle state = is off state or is stopped state
 
 -- a stopped name is started before the time that it remembers
 abbrev pub isTooSoon : NameState → ℕ → Bool
-isTooSoon (Stopped until) time = ltb time until
 isTooSoon Off time = false
 isTooSoon (Verifying sends id timer) time = false
 isTooSoon Unique time = false
 isTooSoon (Defending id qtype qclass timer) time = false
+isTooSoon (Stopped until) time = ltb time until
 isTooSoon Shared time = false
 
 -- 12: no name has this number; 19: the name is started already; 21: it has stopped, and it is too soon to try it again
