@@ -13,8 +13,8 @@ use Rattle.names.specs.Names.{Labels, AreLabels, IsName, encode}
 use Rattle.names.specs.Folding.{foldedName}
 use Rattle.names.proofs.Names.{same-labels}
 use Rattle.name_table.specs.Bounds.{mostNames, mostRecords, entryHead}
-use Rattle.name_table.specs.Check.{Held, State, lengthAt, kindAt, bodyAt, withName, withRecord}
-use Rattle.name_table.specs.Entries.{NameKind, unique, shared, Data, a, aaaa, ptr, Entry, name, resource, kind, dataOctets, body, entryOctets, tableOctets, names, recordsAfter, records, New, NameRules, RecordRules, Keeps, NoEntry, Breaks, cut-short, length-below-head, past-the-end, kind-zero, kind-above-5, not-a-name, not-4-octets, not-16-octets, root-name, too-many-names, equal-name, no-owner, too-many-records, located}
+use Rattle.name_table.specs.Check.{Held, State, lengthAt, kindAt, bodyAt, withName, withRecord, withMask}
+use Rattle.name_table.specs.Entries.{NameKind, unique, shared, Data, a, aaaa, ptr, Entry, name, resource, mask, kind, dataOctets, body, entryOctets, tableOctets, names, recordsAfter, records, New, NameRules, RecordRules, MaskRules, Keeps, NoEntry, Breaks, cut-short, length-below-head, past-the-end, kind-zero, kind-above-6, not-a-name, not-4-octets, not-16-octets, not-1-octet, mask-zero, mask-above-15, root-name, too-many-names, equal-name, no-owner, too-many-records, located}
 use Rattle.name_table.proofs.Fold.{Whole}
 
 -- every name is one
@@ -40,11 +40,13 @@ pub names-append : (es fs : List Entry) → names (es ++ fs) ≡ names es ++ nam
 names-append [] fs = refl
 names-append (name k n ∷ es) fs = ap (λ (r : List Labels). n ∷ r) (names-append es fs)
 names-append (resource d ∷ es) fs = names-append es fs
+names-append (mask m ∷ es) fs = names-append es fs
 
 records-append : (r : ℕ) (es fs : List Entry) → recordsAfter r (es ++ fs) ≡ recordsAfter (recordsAfter r es) fs
 records-append r [] fs = refl
 records-append r (name k n ∷ es) fs = records-append 0 es fs
 records-append r (resource d ∷ es) fs = records-append (r + 1) es fs
+records-append r (mask m ∷ es) fs = records-append r es fs
 
 pub located-append : (o : ℕ) (es fs : List Entry) → located o (es ++ fs) ≡ located o es ++ located (o + length (tableOctets es)) fs
 located-append o [] fs = ap (λ (i : ℕ). located i fs) (sym (add-zero o))
@@ -55,11 +57,15 @@ located-append o (name k n ∷ es) fs =
 located-append o (resource d ∷ es) fs =
     let e : o + (entryHead + length (dataOctets d)) + length (tableOctets es) ≡ o + length (tableOctets (resource d ∷ es)) = omega (arith, table-cons (resource d) es) in
     located-append (o + (entryHead + length (dataOctets d))) es fs ∙ ap (λ (i : ℕ). located (o + (entryHead + length (dataOctets d))) es ++ located i fs) e
+located-append o (mask m ∷ es) fs =
+    let e : o + 5 + length (tableOctets es) ≡ o + length (tableOctets (mask m ∷ es)) = omega (arith, table-cons (mask m) es) in
+    located-append (o + 5) es fs ∙ ap (λ (i : ℕ). located (o + 5) es ++ located i fs) e
 
 pub located-length : (o : ℕ) (es : List Entry) → length (located o es) ≡ length (names es)
 located-length o [] = refl
 located-length o (name k n ∷ es) = ap suc (located-length (o + (entryHead + length (encode n))) es)
 located-length o (resource d ∷ es) = located-length (o + (entryHead + length (dataOctets d))) es
+located-length o (mask m ∷ es) = located-length (o + 5) es
 
 at-next : (es : List Entry) (e : Entry) → length (tableOctets (es ++ (e ∷ []))) ≡ length (tableOctets es) + (entryHead + length (body e))
 at-next es e = ap length (table-append es (e ∷ [])) ∙ length-append (tableOctets es) (tableOctets (e ∷ [])) ∙ omega (arith, table-cons e [])
@@ -76,6 +82,9 @@ pub after-record : (es : List Entry) (d : Data) → withRecord (stateOf es) (ent
 after-record es d =
     sym (rw (names-next es (resource d), records-append 0 es (resource d ∷ []), at-next es (resource d), append-nil (located 0 es)))
 
+pub after-mask : (es : List Entry) (m : ℕ) → withMask (stateOf es) 5 ≡ stateOf (es ++ (mask m ∷ []))
+after-mask es m = sym (rw (names-next es (mask m), records-append 0 es (mask m ∷ []), at-next es (mask m), append-nil (located 0 es)))
+
 -- kinds
 name-kind : (k : NameKind) (n : Labels) → (1 ≤ kind (name k n)) × (kind (name k n) ≤ 2)
 name-kind unique n = omega arith
@@ -86,9 +95,10 @@ data-kind (a o) = omega arith
 data-kind (aaaa o) = omega arith
 data-kind (ptr n) = omega arith
 
-kind-range : (e : Entry) → (1 ≤ kind e) × (kind e ≤ 5)
+kind-range : (e : Entry) → (1 ≤ kind e) × (kind e ≤ 6)
 kind-range (name k n) = omega (arith, name-kind k n)
 kind-range (resource d) = omega (arith, data-kind d)
+kind-range (mask m) = omega arith
 
 name-kinds : (j k : NameKind) (n m : Labels) → kind (name j n) ≡ kind (name k m) → j ≡ k
 name-kinds unique unique n m e = refl
@@ -124,6 +134,7 @@ module _ (e : Entry) (r : List ℕ) where
 named : (es : List Entry) (e : Entry) → Keeps es e → kind e ≤ 2 → (n : Labels) × NameRules es n × (body e ≡ encode n)
 named es (name k n) r h = (n, r, refl)
 named es (resource d) r h = absurd (omega (arith, data-kind d))
+named es (mask m) r h = absurd (omega arith)
 
 filled : (es : List Entry) (e : Entry) → Keeps es e → (kind e ≤ 2) ⊎ (kind e ≡ 5) → (n : Labels) × IsName n × (body e ≡ encode n)
 filled es (name k n) r h = (n, r .is-name, refl)
@@ -132,16 +143,30 @@ filled es (resource (a d)) r (inr h) = absurd (omega arith)
 filled es (resource (aaaa d)) r (inl h) = absurd (omega arith)
 filled es (resource (aaaa d)) r (inr h) = absurd (omega arith)
 filled es (resource (ptr n)) r h = (n, r .0, refl)
+filled es (mask m) r (inl h) = absurd (omega arith)
+filled es (mask m) r (inr h) = absurd (omega arith)
 
-owned-by : (es : List Entry) (e : Entry) → Keeps es e → 3 ≤ kind e → RecordRules es
+owned-by : (es : List Entry) (e : Entry) → Keeps es e → 3 ≤ kind e → 1 ≤ length (names es)
 owned-by es (name k n) r h = absurd (omega (arith, name-kind k n))
-owned-by es (resource d) r h = r .1
+owned-by es (resource d) r h = r .1 .has-owner
+owned-by es (mask m) r h = r .has-name
+
+counted : (es : List Entry) (e : Entry) → Keeps es e → 3 ≤ kind e → kind e ≤ 5 → records es < mostRecords
+counted es (name k n) r h l = absurd (omega (arith, name-kind k n))
+counted es (resource d) r h l = r .1 .few-records
+counted es (mask m) r h l = absurd (omega arith)
+
+masked : (es : List Entry) (e : Entry) → Keeps es e → kind e ≡ 6 → (m : ℕ) × MaskRules es m × (body e ≡ m ∷ [])
+masked es (name k n) r h = absurd (omega (arith, name-kind k n))
+masked es (resource d) r h = absurd (omega (arith, data-kind d))
+masked es (mask m) r h = (m, r, refl)
 
 sized : (es : List Entry) (e : Entry) → Keeps es e → ((kind e ≡ 3) → length (body e) ≡ usedBy4) × ((kind e ≡ 4) → length (body e) ≡ usedBy6)
 sized es (name k n) r = (λ h. absurd (omega (arith, name-kind k n)), λ h. absurd (omega (arith, name-kind k n)))
 sized es (resource (a d)) r = (λ h. r .0 .size, λ h. absurd (omega arith))
 sized es (resource (aaaa d)) r = (λ h. absurd (omega arith), λ h. r .0 .size)
 sized es (resource (ptr n)) r = (λ h. absurd (omega arith), λ h. absurd (omega arith))
+sized es (mask m) r = (λ h. absurd (omega arith), λ h. absurd (omega arith))
 
 pub not-new : (ms : List Labels) (n : Labels) (i : ℕ) → i < length ms → foldedName (getD ms i []) ≡ foldedName n → New ms n → ⊥
 not-new [] n i h e w = omega arith
@@ -179,18 +204,27 @@ none-stands es s b e r k q = go b
     go (length-below-head h) = omega (arith, size)
     go (past-the-end h) = omega (arith, size, long)
     go (kind-zero h) = omega (arith, kind-is, kind-range e .0)
-    go (kind-above-5 h) = omega (arith, kind-is, kind-range e .1)
+    go (kind-above-6 h) = omega (arith, kind-is, kind-range e .1)
     go (not-a-name h f) = let t = filled es e k (either h) in f (t .0) (t .1) (body-is ∙ t .2)
     go (not-4-octets h f) = f (ap length body-is ∙ sized es e k .0 (sym kind-is ∙ h))
     go (not-16-octets h f) = f (ap length body-is ∙ sized es e k .1 (sym kind-is ∙ h))
+    go (not-1-octet h f) = let t = masked es e k (sym kind-is ∙ h) in f (ap length (body-is ∙ t .2))
+    go (mask-zero h f) =
+        let t = masked es e k (sym kind-is ∙ h) in
+        let z : 0 ∷ [] ≡ t .0 ∷ [] = sym f ∙ body-is ∙ t .2 in
+        omega (arith, t .1 .not-zero, ap (λ (x : List ℕ). getD x 0 0) z)
+    go (mask-above-15 h m f l) =
+        let t = masked es e k (sym kind-is ∙ h) in
+        let z : m ∷ [] ≡ t .0 ∷ [] = sym f ∙ body-is ∙ t .2 in
+        omega (arith, t .1 .four-bits, ap (λ (x : List ℕ). getD x 0 0) z)
     go (root-name h f) = let t = named es e k (low h) in t .1 .not-root (same-labels (t .0) [] (t .1 .is-name .labels) tt (sym (t .2) ∙ sym body-is ∙ f))
     go (too-many-names h f) = let t = named es e k (low h) in let l : length (names es) < mostNames = t .1 .eight-names in omega arith
     go (equal-name h n i w f j g) =
         let t = named es e k (low h) in
         let same : n ≡ t .0 = same-labels n (t .0) (w .labels) (t .1 .is-name .labels) (sym f ∙ body-is ∙ t .2) in
         not-new (names es) (t .0) i j (g ∙ ap foldedName same) (t .1 .new)
-    go (no-owner h f) = let t : 1 ≤ length (names es) = owned-by es e k (high h) .has-owner in omega (arith, ap length f)
-    go (too-many-records h f) = let t : records es < mostRecords = owned-by es e k (high h) .few-records in omega arith
+    go (no-owner h f) = omega (arith, owned-by es e k (high h), ap length f)
+    go (too-many-records h l f) = omega (arith, counted es e k (high h) (omega (arith, kind-is)))
 
 -- two entries that keep the rules and have one kind and one body
 same-entry : (es : List Entry) (e f : Entry) → Keeps es e → Keeps es f → kind e ≡ kind f → body e ≡ body f → e ≡ f
@@ -200,6 +234,11 @@ same-entry es (name j n) (name k m) x y w q =
     cc
 same-entry es (name j n) (resource d) x y w q = absurd (omega (arith, name-kind j n, data-kind d))
 same-entry es (resource d) (name k m) x y w q = absurd (omega (arith, name-kind k m, data-kind d))
+same-entry es (name j n) (mask m) x y w q = absurd (omega (arith, name-kind j n))
+same-entry es (mask m) (name j n) x y w q = absurd (omega (arith, name-kind j n))
+same-entry es (resource d) (mask m) x y w q = absurd (omega (arith, data-kind d))
+same-entry es (mask m) (resource d) x y w q = absurd (omega (arith, data-kind d))
+same-entry es (mask m) (mask l) x y w q = cc
 same-entry es (resource (a d)) (resource (a c)) x y w q = cc
 same-entry es (resource (a d)) (resource (aaaa c)) x y w q = absurd (omega arith)
 same-entry es (resource (a d)) (resource (ptr c)) x y w q = absurd (omega arith)
@@ -228,3 +267,4 @@ names-kept es e x k = rw (names-append es (e ∷ [])) (both (names es) (names (e
     one : (f : Entry) → Keeps es f → AreNames (names (f ∷ []))
     one (name j n) h = (h .is-name, tt)
     one (resource d) h = tt
+    one (mask m) h = tt

@@ -11,7 +11,7 @@ use Rattle.names.specs.Folding.{foldedName, sameName}
 use Rattle.names.proofs.Names.{same-labels}
 use Rattle.name_table.specs.Bounds.{mostNames, entryHead}
 use Rattle.name_table.specs.Check.{Held, Checked, noName, namesIn, good, checkTable, findFrom, findName}
-use Rattle.name_table.specs.Entries.{Entry, name, resource, dataOctets, names, Keeps, AllKeep, GoodTable, located}
+use Rattle.name_table.specs.Entries.{Entry, name, resource, mask, dataOctets, names, Keeps, AllKeep, GoodTable, located}
 use Rattle.name_table.specs.declared.Found.the-variants.{At}
 use Rattle.name_table.proofs.Entries.{AreNames, names-append, located-length}
 use Rattle.name_table.proofs.Meaning.{all-names, good-iff}
@@ -25,6 +25,7 @@ named-at o [] k x h = absurd (omega arith)
 named-at o (name j n ∷ es) zero x h = (x .0, refl)
 named-at o (name j n ∷ es) (suc k) x h = named-at (o + (entryHead + length (encode n))) es k (x .1) (omega arith)
 named-at o (resource d ∷ es) k x h = named-at (o + (entryHead + length (dataOctets d))) es k x h
+named-at o (mask m ∷ es) k x h = named-at (o + 5) es k x h
 
 -- The number of a name that is found is below the number of names.
 found-from : (j : ℕ) (hs : List Held) (x : List ℕ) (k : ℕ) → findFrom j hs x ≡ At k → k < j + length hs

@@ -3,7 +3,7 @@ use Prim.Native.Nat.{ℕ, suc, _+_, _-_, _/_, _%_, _<_, _≤_}
 use mathlib.Core.Path.{_≡_, refl, sym, ap, _∙_, subst}
 use mathlib.Core.List.{List, [], _∷_, _++_}
 use mathlib.Core.Bool.{Bool, true, false}
-use mathlib.Core.Logic.{inl, inr}
+use mathlib.Core.Logic.{_⊎_, inl, inr, ⊎-elim}
 use native.Mathlib.Omega.{arith}
 use native.Mathlib.Nat.{add-zero}
 use lib.Dec.{leb, eqb}
@@ -21,14 +21,15 @@ use Rattle.names.specs.Names.{Labels, AreLabels, IsName, NameAt, encode}
 use Rattle.names.specs.Folding.{foldedName, sameName}
 use Rattle.names.proofs.Names.{reads-a-name, finds-name, encode-some, encode-octets}
 use Rattle.names.proofs.Folding.{same-names}
-use Rattle.name_table.specs.Bounds.{mostNames, mostRecords, entryHead}
+use Rattle.name_table.specs.Bounds.{mostNames, mostRecords, everywhere, entryHead}
 use Rattle.name_table.specs.Kinds.{kindOf}
+use Rattle.name_table.specs.Masks.{isMask}
 use Rattle.name_table.specs.declared.Found.{Found}
 use Rattle.name_table.specs.declared.Found.the-variants.{At, Nothing}
-use Rattle.name_table.specs.Check.{State, Stepped, on, broken, lengthAt, kindAt, bodyAt, isWhole, lengthIs, nameFills, nameForm, recordForm, formBy, formAt, findFrom, findName, ifNew, withName, withRecord, stepBy, step}
-use Rattle.name_table.specs.Entries.{NameKind, unique, shared, Data, a, aaaa, ptr, Entry, name, resource, kind, dataOctets, body, entryOctets, names, records, New, NameRules, DataRules, Keeps, Breaks, cut-short, length-below-head, past-the-end, kind-zero, kind-above-5, not-a-name, not-4-octets, not-16-octets, root-name, too-many-names, equal-name, no-owner, too-many-records, located}
+use Rattle.name_table.specs.Check.{State, Stepped, on, broken, lengthAt, kindAt, bodyAt, isWhole, lengthIs, nameFills, nameForm, recordForm, maskForm, formBy, formAt, findFrom, findName, ifNew, withName, withRecord, withMask, stepBy, step}
+use Rattle.name_table.specs.Entries.{NameKind, unique, shared, Data, a, aaaa, ptr, Entry, name, resource, mask, kind, dataOctets, body, entryOctets, names, records, New, NameRules, DataRules, MaskRules, Keeps, Breaks, cut-short, length-below-head, past-the-end, kind-zero, kind-above-6, not-a-name, not-4-octets, not-16-octets, not-1-octet, mask-zero, mask-above-15, root-name, too-many-names, equal-name, no-owner, too-many-records, located}
 use Rattle.name_table.proofs.Fold.{Whole, whole-is, stepOf, step-is}
-use Rattle.name_table.proofs.Entries.{AreNames, stateOf, located-length, after-name, after-record, one-entry, none-stands}
+use Rattle.name_table.proofs.Entries.{AreNames, stateOf, located-length, after-name, after-record, after-mask, one-entry, none-stands}
 
 -- the search for a name among those of some entries
 pub data Sought (ms : List Labels) (n : Labels) (k : ℕ) (r : Found) : Type 0 where
@@ -40,6 +41,7 @@ pub seek : (k o : ℕ) (es : List Entry) (n : Labels) → AreNames (names es) �
 unfolding findFrom
 seek k o [] n x h = none tt refl
 seek k o (resource d ∷ es) n x h = seek k (o + (entryHead + length (dataOctets d))) es n x h
+seek k o (mask m ∷ es) n x h = seek k (o + 5) es n x h
 seek k o (name j m ∷ es) n x h =
     let i = same-names m n (x .0) h in
     split (sameName (encode m) (encode n))
@@ -121,6 +123,13 @@ module _ (s : List ℕ) (e : Entry) (w : Whole s) (b : bodyAt s ≡ body e) wher
       ∙ ap (λ (i : ℕ). n % 256 ∷ n / 256 ∷ kind e % 256 ∷ i ∷ drop entryHead s) x3
       ∙ ap (λ (u : List ℕ). n % 256 ∷ n / 256 ∷ kind e % 256 ∷ kind e / 256 ∷ u) d
 
+-- a number that is none of the kinds
+low : (j : ℕ) → (j ≡ 1 → ⊥) → (j ≡ 2 → ⊥) → (j ≡ 3 → ⊥) → (j ≡ 0) ⊎ (3 < j)
+low j d1 d2 d3 = split (eqb j 0) (λ z. inl (eqb-true _ _ z)) (λ z. let d0 : j ≡ 0 → ⊥ = eqb-false _ _ z in inr (omega arith))
+
+high : (j : ℕ) → 3 < j → (j ≡ 4 → ⊥) → (j ≡ 5 → ⊥) → (j ≡ 6 → ⊥) → 6 < j
+high j h d4 d5 d6 = omega arith
+
 module _ (es : List Entry) (s : List ℕ) (o : Octets s) (x : AreNames (names es)) (w : Whole s) where
   judge-name : (k : NameKind) → kindAt s ≡ kind (name k []) → kindAt s ≤ 2
       → Judged es s (stepBy (nameForm (length (located 0 es)) (bodyAt s)) (kindAt s) (bodyAt s) (lengthAt s) (stateOf es))
@@ -153,26 +162,55 @@ module _ (es : List Entry) (s : List ℕ) (o : Octets s) (x : AreNames (names es
           same unique n = refl
           same shared n = refl
 
-  -- the body of a record has its form or not
-  judge-record : (form : Bool) (d : form ≡ true → Data) → ((f : form ≡ true) → DataRules (d f)) → ((f : form ≡ true) → bodyAt s ≡ dataOctets (d f))
-      → ((f : form ≡ true) → kindAt s ≡ kind (resource (d f))) → (form ≡ false → Breaks es s) → 3 ≤ kindAt s
-      → Judged es s (stepBy (recordForm (length (located 0 es)) (records es) form) (kindAt s) (bodyAt s) (lengthAt s) (stateOf es))
-  unfolding recordForm
-  judge-record form d rules b k unformed high =
-      split form
-      (λ f. split (eqb (length (located 0 es)) 0)
-      (λ g. refused (no-owner high (empty (names es) (sym (located-length 0 es) ∙ eqb-true _ _ g))) (rw (f, g))) λ g.
-      let some : length (located 0 es) ≡ 0 → ⊥ = eqb-false _ _ g in
-      split (leb mostRecords (records es))
-      (λ h. refused (too-many-records high (leb-true _ _ h)) (rw (f, g, h))) λ h.
-      let keeps : Keeps es (resource (d f)) = (rules f, record { has-owner = omega (arith, located-length 0 es); few-records = leb-false _ _ h }) in
-      let state = ap (withRecord (stateOf es)) (size-is s (resource (d f)) w (b f)) ∙ after-record es (d f) in
-      taken (resource (d f)) keeps (stands s (resource (d f)) w (b f) o (k f)) (rw (f, g, h) (ap on state)))
-      (λ f. refused (unformed f) (rw f))
+  no-names : eqb (length (located 0 es)) 0 ≡ true → names es ≡ []
+  no-names g = empty (names es) (sym (located-length 0 es) ∙ eqb-true _ _ g)
     where
       empty : (ns : List Labels) → length ns ≡ 0 → ns ≡ []
       empty [] h = refl
       empty (n ∷ ns) h = absurd (omega arith)
+
+  -- the body of a record has its form or not
+  judge-record : (form : Bool) (d : form ≡ true → Data) → ((f : form ≡ true) → DataRules (d f)) → ((f : form ≡ true) → bodyAt s ≡ dataOctets (d f))
+      → ((f : form ≡ true) → kindAt s ≡ kind (resource (d f))) → (form ≡ false → Breaks es s) → 3 ≤ kindAt s → kindAt s ≤ 5
+      → Judged es s (stepBy (recordForm (length (located 0 es)) (records es) form) (kindAt s) (bodyAt s) (lengthAt s) (stateOf es))
+  unfolding recordForm
+  judge-record form d rules b k unformed high low =
+      split form
+      (λ f. split (eqb (length (located 0 es)) 0)
+      (λ g. refused (no-owner high (no-names g)) (rw (f, g))) λ g.
+      let some : length (located 0 es) ≡ 0 → ⊥ = eqb-false _ _ g in
+      split (leb mostRecords (records es))
+      (λ h. refused (too-many-records high low (leb-true _ _ h)) (rw (f, g, h))) λ h.
+      let keeps : Keeps es (resource (d f)) = (rules f, record { has-owner = omega (arith, located-length 0 es); few-records = leb-false _ _ h }) in
+      let state = ap (withRecord (stateOf es)) (size-is s (resource (d f)) w (b f)) ∙ after-record es (d f) in
+      taken (resource (d f)) keeps (stands s (resource (d f)) w (b f) o (k f)) (rw (f, g, h) (ap on state)))
+      (λ f. refused (unformed f) (rw f))
+
+  -- the body of a mask is one octet from 1 to 15 or not
+  judge-mask : kindAt s ≡ 6 → Judged es s (stepBy (maskForm (length (located 0 es)) (bodyAt s)) (kindAt s) (bodyAt s) (lengthAt s) (stateOf es))
+  unfolding maskForm isMask
+  judge-mask k =
+      split (eqb (length (bodyAt s)) 1)
+      (λ f. let one = single (bodyAt s) (eqb-true _ _ f) in
+      split (eqb (length (located 0 es)) 0)
+      (λ g. refused (no-owner (omega arith) (no-names g)) (rw (f, g))) λ g.
+      let some : length (located 0 es) ≡ 0 → ⊥ = eqb-false _ _ g in
+      split (leb 1 (getD (bodyAt s) 0 0))
+      (λ h. split (leb (getD (bodyAt s) 0 0) everywhere)
+      (λ i. let m : ℕ = getD (bodyAt s) 0 0 in
+      let keeps : MaskRules es m = record { has-name = omega (arith, located-length 0 es); not-zero = leb-true _ _ h; four-bits = leb-true _ _ i } in
+      let state = ap (withMask (stateOf es)) (size-is s (mask m) w one) ∙ after-mask es m in
+      taken (mask m) keeps (stands s (mask m) w one o k) (rw (f, g, h, i) (ap on state)))
+      (λ i. refused (mask-above-15 k _ one (leb-false _ _ i)) (rw (f, g, h, i))))
+      (λ h. let z : getD (bodyAt s) 0 0 < 1 = leb-false _ _ h in
+      let zero-is : getD (bodyAt s) 0 0 ≡ 0 = omega arith in
+      refused (mask-zero k (one ∙ ap (λ (m : ℕ). m ∷ []) zero-is)) (rw (f, g, h))))
+      (λ f. refused (not-1-octet k (eqb-false _ _ f)) (rw f))
+    where
+      single : (b : List ℕ) → length b ≡ 1 → b ≡ getD b 0 0 ∷ []
+      single [] h = absurd (omega arith)
+      single (c ∷ []) h = refl
+      single (c ∷ d ∷ b) h = absurd (omega arith)
 
   judge-kind : Judged es s (stepOf (kindAt s) (bodyAt s) (lengthAt s) (stateOf es))
   unfolding kindOf formBy
@@ -183,19 +221,19 @@ module _ (es : List Entry) (s : List ℕ) (o : Octets s) (x : AreNames (names es
       split (eqb (kindAt s) 2) (λ q. let v : k ≡ 2 = eqb-true _ _ q in rw (p, q) (judge-name shared v (omega arith))) λ q.
       split (eqb (kindAt s) 3)
       (λ r. let v : k ≡ 3 = eqb-true _ _ r in
-      rw (p, q, r) (judge-record (eqb (length (bodyAt s)) usedBy4) (λ f. a (bodyAt s)) (λ f. record { size = eqb-true _ _ f; octets = ob }) (λ f. refl) (λ f. v) (λ f. not-4-octets v (eqb-false _ _ f)) (omega arith))) λ r.
+      rw (p, q, r) (judge-record (eqb (length (bodyAt s)) usedBy4) (λ f. a (bodyAt s)) (λ f. record { size = eqb-true _ _ f; octets = ob }) (λ f. refl) (λ f. v) (λ f. not-4-octets v (eqb-false _ _ f)) (omega arith) (omega arith))) λ r.
       split (eqb (kindAt s) 4)
       (λ t. let v : k ≡ 4 = eqb-true _ _ t in
-      rw (p, q, r, t) (judge-record (eqb (length (bodyAt s)) usedBy6) (λ f. aaaa (bodyAt s)) (λ f. record { size = eqb-true _ _ f; octets = ob }) (λ f. refl) (λ f. v) (λ f. not-16-octets v (eqb-false _ _ f)) (omega arith))) λ t.
+      rw (p, q, r, t) (judge-record (eqb (length (bodyAt s)) usedBy6) (λ f. aaaa (bodyAt s)) (λ f. record { size = eqb-true _ _ f; octets = ob }) (λ f. refl) (λ f. v) (λ f. not-16-octets v (eqb-false _ _ f)) (omega arith) (omega arith))) λ t.
       split (eqb (kindAt s) 5)
       (λ u. let v : k ≡ 5 = eqb-true _ _ u in
-      rw (p, q, r, t, u) (judge-record (nameFills (bodyAt s)) (λ f. ptr (fills-name (bodyAt s) ob f .name)) (λ f. fills-name (bodyAt s) ob f .is-name) (λ f. fills-name (bodyAt s) ob f .octets) (λ f. v) (λ f. not-a-name (inr v) (no-name (bodyAt s) f)) (omega arith)))
-      (λ u. rw (p, q, r, t, u) (refused (unknown (kindAt s) (eqb-false _ _ p) (eqb-false _ _ q) (eqb-false _ _ r) (eqb-false _ _ t) (eqb-false _ _ u) refl) refl))
+      rw (p, q, r, t, u) (judge-record (nameFills (bodyAt s)) (λ f. ptr (fills-name (bodyAt s) ob f .name)) (λ f. fills-name (bodyAt s) ob f .is-name) (λ f. fills-name (bodyAt s) ob f .octets) (λ f. v) (λ f. not-a-name (inr v) (no-name (bodyAt s) f)) (omega arith) (omega arith))) λ u.
+      split (eqb (kindAt s) 6) (λ y. rw (p, q, r, t, u, y) (judge-mask (eqb-true _ _ y)))
+      (λ y. rw (p, q, r, t, u, y) (refused (unknown (kindAt s) (eqb-false _ _ p) (eqb-false _ _ q) (eqb-false _ _ r) (eqb-false _ _ t) (eqb-false _ _ u) (eqb-false _ _ y) refl) refl))
     where
-      unknown : (j : ℕ) → (j ≡ 1 → ⊥) → (j ≡ 2 → ⊥) → (j ≡ 3 → ⊥) → (j ≡ 4 → ⊥) → (j ≡ 5 → ⊥) → kindAt s ≡ j → Breaks es s
-      unknown j d1 d2 d3 d4 d5 e =
-          split (eqb j 0) (λ z. kind-zero (e ∙ eqb-true _ _ z))
-          (λ z. let d0 : j ≡ 0 → ⊥ = eqb-false _ _ z in kind-above-5 (omega arith))
+      unknown : (j : ℕ) → (j ≡ 1 → ⊥) → (j ≡ 2 → ⊥) → (j ≡ 3 → ⊥) → (j ≡ 4 → ⊥) → (j ≡ 5 → ⊥) → (j ≡ 6 → ⊥) → kindAt s ≡ j → Breaks es s
+      unknown j d1 d2 d3 d4 d5 d6 e =
+          ⊎-elim (λ z. kind-zero (e ∙ z)) (λ l. kind-above-6 (subst (λ (i : ℕ). 6 < i) (sym e) (high j l d4 d5 d6))) (low j d1 d2 d3)
 
 no-part : (es : List Entry) (s : List ℕ) → isWhole s ≡ false → Breaks es s
 unfolding isWhole

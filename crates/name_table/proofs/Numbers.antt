@@ -16,7 +16,7 @@ use Rattle.names.specs.Folding.{foldedName}
 use Rattle.name_table.specs.Bounds.{mostNames}
 use Rattle.name_table.specs.Kinds.{kindOf}
 use Rattle.name_table.specs.Check.{noName, findName}
-use Rattle.name_table.specs.Entries.{Entry, name, resource, names, New, Keeps, AllKeep, GoodTable, located}
+use Rattle.name_table.specs.Entries.{Entry, name, resource, mask, names, New, Keeps, AllKeep, GoodTable, located}
 use Rattle.name_table.specs.Shown.{heldAt, namesOf, nameOf}
 use Rattle.name_table.specs.declared.Table.{Table}
 use Rattle.name_table.specs.declared.Found.the-variants.{At, Nothing}
@@ -57,6 +57,7 @@ distinct before (e ∷ es) d h =
     one : (f : Entry) → Keeps before f → Distinct (names (before ++ (f ∷ [])))
     one (name k n) r = rw (names-append before (name k n ∷ [])) (distinct-more (names before) n d (r .new))
     one (resource x) r = rw (names-append before (resource x ∷ []), append-nil (names before)) d
+    one (mask m) r = rw (names-append before (mask m ∷ []), append-nil (names before)) d
 
 module _ (s : List ℕ) (t : GoodTable s) (n : Labels) (h : IsName n) where
   -- The number found is that of the one name that equals n.

@@ -8,19 +8,20 @@ use lib.ListN.{length, take, drop, length-drop}
 use lib.Seq.{drop-drop}
 use lib.Dec.{ltb, leb, eqb}
 use borrow.Author.Tests.{lt-ltb, le-ltb, leb-true, leb-false, ltb-true, ltb-false, eqb-true, eqb-false, eq-eqb, ne-eqb}
-use Rattle.octets.specs.Octets.{partOf}
+use Rattle.octets.specs.Octets.{octetAt, partOf}
 use Rattle.octets.proofs.Tests.{split}
 use Rattle.octets.proofs.Octets.{part-in, part-rest}
 use Rattle.name_table.specs.Bounds.{longestTable, mostNames, mostRecords, entryHead}
 use Rattle.name_table.specs.Kinds.{kindOf}
+use Rattle.name_table.specs.Masks.{isMask}
 use Rattle.name_table.specs.declared.Kind.{Kind}
-use Rattle.name_table.specs.declared.Kind.the-variants.{Unique, Shared, Octets, Target, Unknown}
+use Rattle.name_table.specs.declared.Kind.the-variants.{Unique, Shared, Octets, Target, Mask, Unknown}
 use Rattle.name_table.specs.declared.Form.{Form}
-use Rattle.name_table.specs.declared.Form.the-variants.{Name, Record, Bad}
+use Rattle.name_table.specs.declared.Form.the-variants.{Name, Record, Mask, Bad}
 use Rattle.name_table.specs.declared.Found.{Found}
 use Rattle.name_table.specs.declared.Found.the-variants.{At, Nothing}
 use Rattle.name_table.specs.declared.Table.{Table}
-use Rattle.name_table.specs.Check.{Held, State, on, broken, Checked, bad, good, namesIn, checkedBy, lengthAt, kindAt, bodyAt, isWhole, wholeLength, nameFills, nameForm, recordForm, formBy, formAt, findName, ifNew, withName, withRecord, stepBy, step, checkFrom, checkTable}
+use Rattle.name_table.specs.Check.{Held, State, on, broken, Checked, bad, good, namesIn, checkedBy, lengthAt, kindAt, bodyAt, isWhole, wholeLength, nameFills, nameForm, recordForm, maskForm, formBy, formAt, findName, ifNew, withName, withRecord, withMask, stepBy, step, checkFrom, checkTable}
 use Rattle.name_table.specs.Shown.{heldFrom, namesOf, tableOf, empty, readBy, tableRead, settled, shown}
 use Rattle.name_table.proofs.Fold.{Whole, whole-is, some-whole, none-whole, whole-length, turn-on, turn-end, turn-off, shorter, fuel}
 use Rattle.name_table.proofs.Shown.{added, names-added, names-length, table-added, rows}
@@ -69,12 +70,22 @@ no-record-name names records b e =
     (λ h. let z : _≡_ {A = ℕ} 0 1 = cc (rw (f, g, h) at e) in omega arith))
     (λ f. let z : _≡_ {A = ℕ} 0 1 = cc (rw f at e) in omega arith)
 
+no-mask-name : (names : ℕ) (b : List ℕ) → maskForm names b ≡ Name → ⊥
+unfolding maskForm
+no-mask-name names b e =
+    split (eqb (length b) 1)
+    (λ f. split (eqb names 0) (λ g. let z : _≡_ {A = ℕ} 0 1 = cc (rw (f, g) at e) in omega arith) λ g.
+    split (isMask (octetAt b 0)) (λ h. let z : _≡_ {A = ℕ} 0 1 = cc (rw (f, g, h) at e) in omega arith)
+    (λ h. let z : _≡_ {A = ℕ} 0 1 = cc (rw (f, g, h) at e) in omega arith))
+    (λ f. let z : _≡_ {A = ℕ} 0 1 = cc (rw f at e) in omega arith)
+
 kind-room : (k : Kind) (names records : ℕ) (b : List ℕ) → formBy k names records b ≡ Name → names < mostNames
 unfolding formBy
 kind-room Unique names records b e = name-room names b e
 kind-room Shared names records b e = name-room names b e
 kind-room (Octets t n) names records b e = absurd (no-record-name names records (eqb (length b) n) e)
 kind-room (Target t) names records b e = absurd (no-record-name names records (nameFills b) e)
+kind-room Mask names records b e = absurd (no-mask-name names b e)
 kind-room Unknown names records b e = absurd (let z : _≡_ {A = ℕ} 0 1 = cc in omega arith)
 
 -- a reading of a bad table
@@ -200,6 +211,17 @@ module _ {s : List ℕ} {t : Table} {records at : ℕ} {u : List ℕ} {len kind 
         so-far = goes-on (withRecord (stateAt s t records at) len) (step-by s t records at r u (n .rest) (n .more) Record (form-is Record q) ∙ rw (← size-is));
       }
 
+  pub on-mask : formBy (kindOf kind) (t .names) records body ≡ Mask → Reading s t records (at + len)
+  on-mask q =
+      record {
+        short = r .short;
+        names = r .names;
+        table = r .table;
+        inside = moves .1;
+        few = omega (arith, r .few);
+        so-far = goes-on (withMask (stateAt s t records at) len) (step-by s t records at r u (n .rest) (n .more) Mask (form-is Mask q) ∙ rw (← size-is));
+      }
+
   stands : partOf s (at + entryHead) (at + len) ≡ body
   stands =
       let p : at + entryHead ≤ at + len = omega (arith, moves .0) in
@@ -268,6 +290,7 @@ ends (suc k) s t records at r l =
         go : (f : Form) → formBy (kindOf (kindAt u)) (t .names) records (partOf u entryHead len) ≡ f → Ends s (checkTable s)
         go Name q = named q (findName (namesOf s t) (partOf u entryHead len)) refl
         go Record q = more t (records + 1) (on-record n q) nearer
+        go Mask q = more t records (on-mask n q) nearer
         go Bad q = subst (Ends s) (sym (bad-form n q)) (stop at)
 
 comes-to : (s : List ℕ) → Ends s (checkTable s)

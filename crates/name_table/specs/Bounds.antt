@@ -13,6 +13,10 @@ mostNames = 8
 abbrev pub mostRecords : ℕ
 mostRecords = 24
 
+-- the mask of interfaces 0 to 3
+abbrev pub everywhere : ℕ
+everywhere = 15
+
 -- octets of an entry before its body: length and kind
 abbrev pub entryHead : ℕ
 entryHead = 4

@@ -4,7 +4,7 @@ use mathlib.Core.List.{List, [], _∷_, _++_}
 use mathlib.Core.Bool.{Bool, true, false, cond}
 use lib.ListN.{length, getD, drop}
 use lib.Dec.{ltb, leb, eqb}
-use Rattle.octets.specs.Octets.{partOf}
+use Rattle.octets.specs.Octets.{octetAt, partOf}
 use Rattle.octets.specs.Words.{littleAt}
 use Rattle.octets.specs.Tests.{_and_}
 use Rattle.names.specs.declared.NameRead.{NameRead}
@@ -13,10 +13,11 @@ use Rattle.names.specs.NameWalk.{nameAt}
 use Rattle.names.specs.Folding.{sameName}
 use Rattle.name_table.specs.Bounds.{longestTable, mostNames, mostRecords, entryHead}
 use Rattle.name_table.specs.Kinds.{kindOf}
+use Rattle.name_table.specs.Masks.{isMask}
 use Rattle.name_table.specs.declared.Kind.{Kind}
-use Rattle.name_table.specs.declared.Kind.the-variants.{Unique, Shared, Octets, Target, Unknown}
+use Rattle.name_table.specs.declared.Kind.the-variants.{Unique, Shared, Octets, Target, Mask, Unknown}
 use Rattle.name_table.specs.declared.Form.{Form}
-use Rattle.name_table.specs.declared.Form.the-variants.{Name, Record, Bad}
+use Rattle.name_table.specs.declared.Form.the-variants.{Name, Record, Mask, Bad}
 use Rattle.name_table.specs.declared.Found.{Found}
 use Rattle.name_table.specs.declared.Found.the-variants.{At, Nothing}
 
@@ -64,11 +65,21 @@ recordForm names records body =
     Record))
     Bad
 
+-- A mask's entry, kind 6, is in form if its body is one octet, a name stands before it, and the octet is a mask.
+unfoldable pub maskForm : ℕ → List ℕ → Form
+maskForm names body =
+    cond (eqb (length body) 1)
+    (cond (eqb names 0) Bad
+    (cond (isMask (octetAt body 0)) Mask
+    Bad))
+    Bad
+
 unfoldable pub formBy : Kind → ℕ → ℕ → List ℕ → Form
 formBy Unique names records body = nameForm names body
 formBy Shared names records body = nameForm names body
 formBy (Octets rtype len) names records body = recordForm names records (eqb (length body) len)
 formBy (Target rtype) names records body = recordForm names records (nameFills body)
+formBy Mask names records body = maskForm names body
 formBy Unknown names records body = Bad
 
 -- the entry at the start of s, after so many names and so many records of the last one
@@ -124,6 +135,10 @@ withName σ kind body len =
 abbrev pub withRecord : State → ℕ → State
 withRecord σ len = record { names = σ .names; records = σ .records + 1; at = σ .at + len }
 
+-- a mask counts as no record
+abbrev pub withMask : State → ℕ → State
+withMask σ len = record { names = σ .names; records = σ .records; at = σ .at + len }
+
 -- a name equals no earlier one
 abbrev pub ifNew : Found → State → Stepped
 ifNew (At k) τ = broken
@@ -133,6 +148,7 @@ ifNew Nothing τ = on τ
 abbrev pub stepBy : Form → ℕ → List ℕ → ℕ → State → Stepped
 stepBy Name kind body len σ = ifNew (findName (σ .names) body) (withName σ kind body len)
 stepBy Record kind body len σ = on (withRecord σ len)
+stepBy Mask kind body len σ = on (withMask σ len)
 stepBy Bad kind body len σ = broken
 
 -- the step over the entry at the start of s

@@ -2,12 +2,14 @@
 use Prim.Native.Nat.{ℕ, _+_, _<_, _≤_}
 use mathlib.Core.Path.{_≡_}
 use mathlib.Core.List.{List, [], _∷_, _++_}
+use mathlib.Core.Bool.{cond}
 use mathlib.Core.Logic.{_⊎_}
 use lib.ListN.{length, getD}
 use Rattle.octets.specs.Octets.{Octets}
 use Rattle.octets.specs.Words.{littleOctets}
 use Rattle.names.specs.Names.{Labels, IsName, encode}
 use Rattle.names.specs.Folding.{foldedName}
+use Rattle.name_table.specs.Masks.{isValid}
 use Rattle.name_table.specs.Check.{lengthAt, kindAt, bodyAt, Held}
 
 pub data NameKind : Type 0 where
@@ -20,10 +22,11 @@ pub data Data : Type 0 where
   aaaa : List ℕ → Data
   ptr : Labels → Data
 
--- a name, or a record of the last name before it
+-- a name; a record of the last name before it; or the mask of the records after it, up to the next mask or name
 pub data Entry : Type 0 where
   name : NameKind → Labels → Entry
   resource : Data → Entry
+  mask : ℕ → Entry
 
 abbrev pub kind : Entry → ℕ
 kind (name unique n) = 1
@@ -31,6 +34,7 @@ kind (name shared n) = 2
 kind (resource (a o)) = 3
 kind (resource (aaaa o)) = 4
 kind (resource (ptr n)) = 5
+kind (mask m) = 6
 
 abbrev pub dataOctets : Data → List ℕ
 dataOctets (a o) = o
@@ -45,6 +49,7 @@ dataType (ptr n) = 12
 abbrev pub body : Entry → List ℕ
 body (name k n) = encode n
 body (resource d) = dataOctets d
+body (mask m) = m ∷ []
 
 -- length of the whole entry, kind, body
 abbrev pub entryOctets : Entry → List ℕ
@@ -59,12 +64,14 @@ abbrev pub names : List Entry → List Labels
 names [] = []
 names (name k n ∷ es) = n ∷ names es
 names (resource d ∷ es) = names es
+names (mask m ∷ es) = names es
 
 -- the records after the last name, and r more if there is no name
 abbrev pub recordsAfter : ℕ → List Entry → ℕ
 recordsAfter r [] = r
 recordsAfter r (name k n ∷ es) = recordsAfter 0 es
 recordsAfter r (resource d ∷ es) = recordsAfter (r + 1) es
+recordsAfter r (mask m ∷ es) = recordsAfter r es
 
 abbrev pub records : List Entry → ℕ
 records es = recordsAfter 0 es
@@ -95,9 +102,16 @@ DataRules (a o) = AddressRules 4 o
 DataRules (aaaa o) = AddressRules 16 o
 DataRules (ptr n) = IsName n
 
+-- the rules for a mask after the entries `before`: 1 to 15, and a name stands before it
+pub record MaskRules (before : List Entry) (m : ℕ) : Type 0 where
+  pub has-name : 1 ≤ length (names before)
+  pub not-zero : 1 ≤ m
+  pub four-bits : m ≤ 15
+
 abbrev pub Keeps : List Entry → Entry → Type 0
 Keeps before (name k n) = NameRules before n
 Keeps before (resource d) = DataRules d × RecordRules before
+Keeps before (mask m) = MaskRules before m
 
 -- each of some entries keeps the rules, after those before it
 abbrev pub AllKeep : List Entry → List Entry → Type 0
@@ -121,16 +135,19 @@ pub data Breaks (before : List Entry) (s : List ℕ) : Type 0 where
   length-below-head : lengthAt s < 4 → Breaks before s
   past-the-end : length s < lengthAt s → Breaks before s
   kind-zero : kindAt s ≡ 0 → Breaks before s
-  kind-above-5 : 5 < kindAt s → Breaks before s
+  kind-above-6 : 6 < kindAt s → Breaks before s
   not-a-name : (kindAt s ≤ 2) ⊎ (kindAt s ≡ 5) → ((n : Labels) → IsName n → bodyAt s ≡ encode n → ⊥) → Breaks before s
   not-4-octets : kindAt s ≡ 3 → (length (bodyAt s) ≡ 4 → ⊥) → Breaks before s
   not-16-octets : kindAt s ≡ 4 → (length (bodyAt s) ≡ 16 → ⊥) → Breaks before s
+  not-1-octet : kindAt s ≡ 6 → (length (bodyAt s) ≡ 1 → ⊥) → Breaks before s
+  mask-zero : kindAt s ≡ 6 → bodyAt s ≡ 0 ∷ [] → Breaks before s
+  mask-above-15 : kindAt s ≡ 6 → (m : ℕ) → bodyAt s ≡ m ∷ [] → 15 < m → Breaks before s
   root-name : kindAt s ≤ 2 → bodyAt s ≡ encode [] → Breaks before s
   too-many-names : kindAt s ≤ 2 → 8 ≤ length (names before) → Breaks before s
   equal-name : kindAt s ≤ 2 → (n : Labels) (i : ℕ) → IsName n → bodyAt s ≡ encode n → i < length (names before)
       → foldedName (getD (names before) i []) ≡ foldedName n → Breaks before s
   no-owner : 3 ≤ kindAt s → names before ≡ [] → Breaks before s
-  too-many-records : 3 ≤ kindAt s → 24 ≤ records before → Breaks before s
+  too-many-records : 3 ≤ kindAt s → kindAt s ≤ 5 → 24 ≤ records before → Breaks before s
 
 -- good entries end at an offset, and the entry there breaks a rule
 pub record BadEntry (s : List ℕ) (at : ℕ) : Type 0 where
@@ -149,18 +166,31 @@ located o (name k n ∷ es) =
     record { kind = kind (name k n); start = o + 4; end = o + (4 + length (encode n)); octets = encode n }
     ∷ located (o + (4 + length (encode n))) es
 located o (resource d ∷ es) = located (o + (4 + length (dataOctets d))) es
+located o (mask m ∷ es) = located (o + 5) es
 
--- the records at the start of some entries, up to the next name
-abbrev pub leading : List Entry → List Data
-leading [] = []
-leading (name k n ∷ es) = []
-leading (resource d ∷ es) = d ∷ leading es
+-- a record, and the mask of the interfaces on which it is valid
+pub record Owned : Type 0 where
+  pub valid : ℕ
+  pub rdata : Data
 
--- the records of each name, in order
-abbrev pub owned : List Entry → List (List Data)
+-- the records at the start of some entries, up to the next name: each has the mask of the last kind 6 before it; m before any
+abbrev pub leading : ℕ → List Entry → List Owned
+leading m [] = []
+leading m (name k n ∷ es) = []
+leading m (resource d ∷ es) = record { valid = m; rdata = d } ∷ leading m es
+leading m (mask l ∷ es) = leading l es
+
+-- the records of each name, in order; those before any kind 6 of the name are valid on every interface
+abbrev pub owned : List Entry → List (List Owned)
 owned [] = []
-owned (name k n ∷ es) = leading es ∷ owned es
+owned (name k n ∷ es) = leading 15 es ∷ owned es
 owned (resource d ∷ es) = owned es
+owned (mask m ∷ es) = owned es
+
+-- the records of a name that are valid on interface i, in order
+abbrev pub validFor : ℕ → List Owned → List Data
+validFor i [] = []
+validFor i (o ∷ os) = cond (isValid (o .valid) i) (o .rdata ∷ validFor i os) (validFor i os)
 
 -- a record as it is answered: its type and its data
 pub record Answer : Type 0 where

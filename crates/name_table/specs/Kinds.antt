@@ -1,11 +1,11 @@
--- Kinds of entries: 1 unique name, 2 shared name (body: a name), 3 A (4 octets), 4 AAAA (16), 5 PTR (a name).
+-- Kinds of entries: 1 unique name, 2 shared name (body: a name), 3 A (4 octets), 4 AAAA (16), 5 PTR (a name), 6 mask (1 octet).
 use Prim.Native.Nat.{ℕ}
 use mathlib.Core.Bool.{Bool, true, false, cond}
 use lib.Dec.{eqb}
 use Rattle.octets.specs.Bounds.{usedBy4, usedBy6}
 use Rattle.name_table.specs.Bounds.{typeA, typePTR, typeAAAA}
 use Rattle.name_table.specs.declared.Kind.{Kind}
-use Rattle.name_table.specs.declared.Kind.the-variants.{Unique, Shared, Octets, Target, Unknown}
+use Rattle.name_table.specs.declared.Kind.the-variants.{Unique, Shared, Octets, Target, Mask, Unknown}
 
 -- the form of the body, and a record's type
 unfoldable pub kindOf : ℕ → Kind
@@ -15,7 +15,8 @@ kindOf k =
     (cond (eqb k 3) (Octets typeA usedBy4)
     (cond (eqb k 4) (Octets typeAAAA usedBy6)
     (cond (eqb k 5) (Target typePTR)
-    Unknown))))
+    (cond (eqb k 6) Mask
+    Unknown)))))
 
 -- a shared name
 abbrev pub isSharedKind : Kind → Bool
@@ -23,4 +24,5 @@ isSharedKind Unique = false
 isSharedKind Shared = true
 isSharedKind (Octets rtype len) = false
 isSharedKind (Target rtype) = false
+isSharedKind Mask = false
 isSharedKind Unknown = false

@@ -1,5 +1,6 @@
 pub mod Bounds
 pub mod Kinds
+pub mod Masks
 pub mod Check
 pub mod Entries
 pub mod Records

@@ -1,4 +1,4 @@
-// The name table: its check, its names, and the records of a name.
+// The name table: its check and its names. The records of a name are read in resources.rt.
 ghost use mathlib.Core.Path.{_≡_};
 ghost use mathlib.Core.Bool.{false};
 ghost use mathlib.Core.List.{List};
@@ -7,17 +7,20 @@ ghost use lib.ListN.{length};
 ghost use lib.Dec.{eqb};
 ghost use Rattle.name_table.specs.Bounds.{longestTable, mostNames};
 ghost use Rattle.name_table.specs.Kinds.{kindOf};
-ghost use Rattle.name_table.specs.Check.{wholeLength, nameFills, nameForm, recordForm, formBy, findName};
-ghost use Rattle.name_table.specs.Records.{recordBy, recordAt, recordsOf};
+ghost use Rattle.name_table.specs.Masks.{isMask};
+ghost use Rattle.name_table.specs.Check.{wholeLength, nameFills, nameForm, recordForm, maskForm, formBy, findName};
 ghost use Rattle.name_table.specs.Shown.{heldFrom, namesOf, nameOf, empty, settled, tableRead};
 
-// What an entry's kind says of its body: a unique or a shared name, a record's data of so many octets, or a record's target, which
-// is a name.
+pub mod resources;
+
+// What an entry's kind says of its body: a unique or a shared name, a record's data of so many octets, a record's target, which is a
+// name, or the mask of the records after it.
 pub enum Kind {
     Unique,
     Shared,
     Octets { rtype: u16, len: usize },
     Target { rtype: u16 },
+    Mask,
     Unknown,
 }
 
@@ -52,6 +55,7 @@ pub fn kind_of(number: u16) -> Kind
             len: octets::Address::IPV6_OCTETS,
         },
         5 => Kind::Target { rtype: Record::PTR },
+        6 => Kind::Mask,
         _ => Kind::Unknown,
     }
 }
@@ -74,10 +78,13 @@ impl Table {
     pub const RECORDS: usize = 24;
 
     pub const HEAD: usize = 4;
+
+    // The mask of interfaces 0 to 3.
+    pub const EVERYWHERE: u8 = 15;
 }
 
 // The length of the entry at the start of s; 0 where none is whole.
-fn whole_length(s: &[u8]) -> usize
+pub(crate) fn whole_length(s: &[u8]) -> usize
     ensures { λ r. ⌜ r ≡ wholeLength (now (s .entry)) ⌝ }
 {
     if s.len() < Table::HEAD {
@@ -111,6 +118,7 @@ fn has_length(body: &[u8], n: usize) -> bool
 pub enum Form {
     Name,
     Record,
+    Mask,
     Bad,
 }
 
@@ -144,6 +152,31 @@ fn record_form(names: usize, records: usize, body: bool) -> Form
     Form::Bad
 }
 
+// Whether a table may hold a mask: it is neither 0 nor above 15.
+fn is_mask(mask: u8) -> bool
+    ensures { λ r. ⌜ r ≡ isMask mask ⌝ }
+{
+    if 1 <= mask {
+        mask <= Table::EVERYWHERE
+    } else {
+        false
+    }
+}
+
+fn mask_form(names: usize, body: &[u8]) -> Form
+    ensures { λ r. ⌜ r ≡ maskForm names (now (body .entry)) ⌝ }
+{
+    if body.len() == 1 {
+        if names == 0 {
+            return Form::Bad;
+        }
+        if is_mask(octets::octet(body, 0)) {
+            return Form::Mask;
+        }
+    }
+    Form::Bad
+}
+
 // The form of an entry of some kind, after so many names and so many records of the last one.
 fn form_by(kind: Kind, names: usize, records: usize, body: &[u8]) -> Form
     ensures { λ r. ⌜ r ≡ formBy kind names records (now (body .entry)) ⌝ }
@@ -153,6 +186,7 @@ fn form_by(kind: Kind, names: usize, records: usize, body: &[u8]) -> Form
         Kind::Shared => name_form(names, body),
         Kind::Octets { rtype: _, len } => record_form(names, records, has_length(body, len)),
         Kind::Target { rtype: _ } => record_form(names, records, name_fills(body)),
+        Kind::Mask => mask_form(names, body),
         Kind::Unknown => Form::Bad,
     }
 }
@@ -305,6 +339,7 @@ impl Table {
                     records = 0;
                 }
                 Form::Record => records = records + 1,
+                Form::Mask => {}
                 Form::Bad => break,
             }
             at = at + len;
@@ -329,58 +364,10 @@ impl Table {
     }
 }
 
-// A record at an offset of a table; or none: a name stands there, or the table ends.
+// A record at an offset of a table; or the mask of the records after it, and where they begin; or neither: a name stands there, or the
+// table ends.
 pub enum RecordRead {
     Good(Record),
+    Mask { mask: u8, end: usize },
     End,
-}
-
-// The record of an entry of some kind, whose body stands from start up to end.
-fn record_by(kind: Kind, start: usize, end: usize) -> RecordRead
-    ensures { λ r. ⌜ r ≡ recordBy kind start end ⌝ }
-{
-    match kind {
-        Kind::Unique => RecordRead::End,
-        Kind::Shared => RecordRead::End,
-        Kind::Octets { rtype, len: _ } => RecordRead::Good(Record {
-            rtype: rtype,
-            start: start,
-            end: end,
-        }),
-        Kind::Target { rtype } => RecordRead::Good(Record {
-            rtype: rtype,
-            start: start,
-            end: end,
-        }),
-        Kind::Unknown => RecordRead::End,
-    }
-}
-
-// The record at an offset. The records of a name are those read one after another from the end of its octets.
-pub fn record_at(table: &[u8], at: usize) -> RecordRead
-    ensures { λ r. ⌜ r ≡ recordAt (now (table .entry)) at ⌝ }
-{
-    let rest = octets::part(table, at, table.len());
-    let len = whole_length(rest);
-    if len == 0 {
-        return RecordRead::End;
-    }
-    let kind = kind_of(octets::little(rest, 2));
-    record_by(kind, at + Table::HEAD, at + len)
-}
-
-// How many records a name has, whose octets end at an offset.
-pub fn count_records(table: &[u8], at: usize) -> usize
-    ensures { λ r. ⌜ r ≡ length (recordsOf (now (table .entry)) at) ⌝ }
-{
-    let mut n: usize = 0;
-    let mut p = at;
-    loop {
-        let read = record_at(table, p);
-        let RecordRead::Good(r) = read else {
-            return n;
-        };
-        n = n + 1;
-        p = r.end;
-    }
 }

@@ -37,6 +37,12 @@ record-form-requires-2 c κs = search needs
 enum-told-4 : tie.Need-enum-told-4
 enum-told-4 c = search needs
 
+mask-form-requires : tie.Need-mask-form-requires
+mask-form-requires c κs = search needs
+
+enum-told-5 : tie.Need-enum-told-5
+enum-told-5 c = search needs
+
 returns : tie.Need-returns
 unfolding formBy
 returns c = rw (c .before .enum-told .given .1) (c .name-form .ensures)
@@ -55,7 +61,11 @@ returns-4 c = rw (c .before .before .enum-told3 .given .1, ← c .before .name-f
 
 returns-5 : tie.Need-returns-5
 unfolding formBy
-returns-5 c = rw (c .enum-told4 .given .1)
+returns-5 c = rw (c .before .enum-told4 .given .1) (c .mask-form .ensures)
+
+returns-6 : tie.Need-returns-6
+unfolding formBy
+returns-6 c = rw (c .enum-told5 .given .1)
 
 pub form-by-spec : {M : Type 1} → statement M
 form-by-spec =
@@ -72,8 +82,11 @@ form-by-spec =
     name-fills-requires
     record-form-requires-2
     enum-told-4
+    mask-form-requires
+    enum-told-5
     returns
     returns-2
     returns-3
     returns-4
-    returns-5)
+    returns-5
+    returns-6)

@@ -16,7 +16,7 @@ use Rattle.name_table.specs.declared.Form.the-variants.{Name}
 use Rattle.name_table.specs.declared.Found.{Found}
 use Rattle.name_table.specs.declared.Table.{Table}
 use Rattle.name_table.proofs.Shown.{names-before}
-use Rattle.name_table.proofs.Read.{Reading, reading-is, Turn, begin, ended, stopped-at, bad-part, moves, room, bad-form, bad-name, on-record, on-name}
+use Rattle.name_table.proofs.Read.{Reading, reading-is, Turn, begin, ended, stopped-at, bad-part, moves, room, bad-form, bad-name, on-record, on-mask, on-name}
 use borrow.Author.Needs.{needs}
 use Rattle.name_table.proofs.Table.scan.Statement.{statement}
 use Rattle.name_table.proofs.Table.scan.Tie as tie
@@ -194,6 +194,9 @@ add-records c =
 enum-told-5 : tie.Need-enum-told-5 Inv-loop μ-loop
 enum-told-5 c = search needs
 
+enum-told-6 : tie.Need-enum-told-6 Inv-loop μ-loop
+enum-told-6 c = search needs
+
 add-at : tie.Need-add-at Inv-loop μ-loop
 add-at c = omega (arith, moves (turn (c .before)) .1)
 
@@ -207,7 +210,9 @@ loop-again c =
     let f : Here = c .before in
     ⊎-elim
     (λ w. reading-is (table f) (w .8) (w .9) refl (on-name (turn f) (form f (w .1 .given .1)) (seek f _ (w .5 .ensures) (w .7 .given .1))))
+    (⊎-elim
     (λ w. reading-is (table f) (w .2) (w .3) refl (on-record (turn f) (form f (w .1 .given .1))))
+    (λ w. reading-is (table f) (w .2) (w .3) refl (on-mask (turn f) (form f (w .1 .given .1)))))
     (c .match .came)
 
 given-requires : tie.Need-given-requires Inv-loop μ-loop
@@ -261,6 +266,7 @@ scan-spec =
     enum-told-4
     add-records
     enum-told-5
+    enum-told-6
     add-at
     loop-less
     loop-again

@@ -1,4 +1,4 @@
--- `name_table::record_at` meets its contract.
+-- `name_table::resources::record_at` meets its contract.
 use Rattle.name_table.specs.Records.{recordAt}
 use Rattle.octets.proofs.Octets.{part-rest}
 use Rattle.name_table.proofs.Fold.{some-whole, none-whole, whole-length}
@@ -7,8 +7,8 @@ use native.Mathlib.Omega.{arith}
 use mathlib.Core.Path.{sym, _∙_}
 use denote.Ref.{now}
 use borrow.Author.Needs.{needs}
-use Rattle.name_table.proofs.record_at.Statement.{statement}
-use Rattle.name_table.proofs.record_at.Tie as tie
+use Rattle.name_table.proofs.resources.record_at.Statement.{statement}
+use Rattle.name_table.proofs.resources.record_at.Tie as tie
 
 part-requires : tie.Need-part-requires
 part-requires c κs = search needs

@@ -1,8 +1,8 @@
--- `name_table::record_by` meets its contract.
+-- `name_table::resources::record_by` meets its contract.
 use Rattle.name_table.specs.Records.{recordBy}
 use borrow.Author.Needs.{needs}
-use Rattle.name_table.proofs.record_by.Statement.{statement}
-use Rattle.name_table.proofs.record_by.Tie as tie
+use Rattle.name_table.proofs.resources.record_by.Statement.{statement}
+use Rattle.name_table.proofs.resources.record_by.Tie as tie
 
 enum-told : tie.Need-enum-told
 enum-told c = search needs
@@ -18,6 +18,12 @@ enum-known-kind-2 c = search needs
 
 enum-told-3 : tie.Need-enum-told-3
 enum-told-3 c = search needs
+
+octet-requires : tie.Need-octet-requires
+octet-requires c κs = search needs
+
+enum-told-4 : tie.Need-enum-told-4
+enum-told-4 c = search needs
 
 returns : tie.Need-returns
 unfolding recordBy
@@ -37,7 +43,11 @@ returns-4 c = rw (c .before .kind2 .given .1)
 
 returns-5 : tie.Need-returns-5
 unfolding recordBy
-returns-5 c = rw (c .enum-told3 .given .1)
+returns-5 c = rw (c .before .enum-told3 .given .1, c .octet .ensures)
+
+returns-6 : tie.Need-returns-6
+unfolding recordBy
+returns-6 c = rw (c .enum-told4 .given .1)
 
 pub record-by-spec : {M : Type 1} → statement M
 record-by-spec =
@@ -48,8 +58,11 @@ record-by-spec =
     enum-known-kind
     enum-known-kind-2
     enum-told-3
+    octet-requires
+    enum-told-4
     returns
     returns-2
     returns-3
     returns-4
-    returns-5)
+    returns-5
+    returns-6)
