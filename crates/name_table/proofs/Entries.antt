@@ -14,7 +14,7 @@ use Rattle.names.specs.Folding.{foldedName}
 use Rattle.names.proofs.Names.{same-labels}
 use Rattle.name_table.specs.Bounds.{mostNames, mostRecords, entryHead}
 use Rattle.name_table.specs.Check.{Held, State, lengthAt, kindAt, bodyAt, withName, withRecord, withMask}
-use Rattle.name_table.specs.Entries.{NameKind, unique, shared, Data, a, aaaa, ptr, Entry, name, resource, mask, kind, dataOctets, body, entryOctets, tableOctets, names, recordsAfter, records, New, NameRules, RecordRules, MaskRules, Keeps, NoEntry, Breaks, cut-short, length-below-head, past-the-end, kind-zero, kind-above-6, not-a-name, not-4-octets, not-16-octets, not-1-octet, mask-zero, mask-above-15, root-name, too-many-names, equal-name, no-owner, too-many-records, located}
+use Rattle.name_table.specs.Entries.{NameKind, unique, shared, Data, a, aaaa, ptr, Entry, name, resource, mask, kind, dataOctets, body, entryOctets, tableOctets, names, recordsAfter, records, New, NameRules, MaskRules, Keeps, NoEntry, Breaks, cut-short, length-below-head, past-the-end, kind-zero, kind-above-6, not-a-name, not-4-octets, not-16-octets, not-1-octet, mask-zero, mask-above-15, root-name, too-many-names, equal-name, no-owner, too-many-records, located}
 use Rattle.name_table.proofs.Fold.{Whole}
 
 -- every name is one

@@ -4,6 +4,8 @@ pub mod Entries
 pub mod Judge
 pub mod Meaning
 pub mod Records
+pub mod Masks
+pub mod Before
 pub mod Numbers
 pub mod Read
 pub mod Held

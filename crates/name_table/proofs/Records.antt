@@ -89,7 +89,7 @@ module _ (s b : List ℕ) (e : Entry) (r : List ℕ) (q : s ≡ b ++ (entryOctet
   rest-is : drop (length b) s ≡ entryOctets e ++ r
   rest-is = ap (drop (length b)) q ∙ drop-at b (entryOctets e ++ r) (length b) refl
 
-  long : length s ≡ length b + (entryHead + length (body e)) + length r
+  pub long : length s ≡ length b + (entryHead + length (body e)) + length r
   long = ap length q ∙ length-append b (entryOctets e ++ r) ∙ omega (arith, length-append (entryOctets e) r, entry-length e)
 
   -- its body is the part between its head and its end
@@ -102,25 +102,25 @@ module _ (s b : List ℕ) (e : Entry) (r : List ℕ) (q : s ≡ b ++ (entryOctet
       ∙ ap (take (length b + (entryHead + length (body e)) - (length b + entryHead))) (sym (drop-drop entryHead (length b) s) ∙ ap (drop entryHead) rest-is)
       ∙ take-at (body e) r _ z
 
-  record-stands : recordAt s (length b) ≡ recordBy (kindOf (kind e)) (entryOctets e ++ r) (length b + entryHead) (length b + (entryHead + length (body e)))
+  pub record-stands : recordAt s (length b) ≡ recordBy (kindOf (kind e)) (entryOctets e ++ r) (length b + entryHead) (length b + (entryHead + length (body e)))
   unfolding recordAt
   record-stands = rw (rest-is, whole-yes (entryOctets e ++ r) (entry-whole e r), entry-kind e r, entry-size e r)
 
   -- what stands after it
-  next-stands : s ≡ (b ++ entryOctets e) ++ r
+  pub next-stands : s ≡ (b ++ entryOctets e) ++ r
   next-stands = q ∙ sym (append-assoc b (entryOctets e) r)
 
-  next-at : length (b ++ entryOctets e) ≡ length b + (entryHead + length (body e))
+  pub next-at : length (b ++ entryOctets e) ≡ length b + (entryHead + length (body e))
   next-at = length-append b (entryOctets e) ∙ ap (λ (n : ℕ). length b + n) (entry-length e)
 
-record-of-data : (d : Data) (u : List ℕ) (start end : ℕ)
+pub record-of-data : (d : Data) (u : List ℕ) (start end : ℕ)
     → recordBy (kindOf (kind (resource d))) u start end ≡ Good (record { rtype = dataType d; start = start; end = end })
 unfolding recordBy kindOf
 record-of-data (a o) u start end = refl
 record-of-data (aaaa o) u start end = refl
 record-of-data (ptr n) u start end = refl
 
-no-record : (k : NameKind) (n : Labels) (u : List ℕ) (start end : ℕ) → recordBy (kindOf (kind (name k n))) u start end ≡ End
+pub no-record : (k : NameKind) (n : Labels) (u : List ℕ) (start end : ℕ) → recordBy (kindOf (kind (name k n))) u start end ≡ End
 unfolding recordBy kindOf
 no-record unique n u start end = refl
 no-record shared n u start end = refl
@@ -129,7 +129,7 @@ mask-there : (m : ℕ) (r : List ℕ) (start end : ℕ) → recordBy (kindOf (ki
 unfolding recordBy kindOf
 mask-there m r start end = refl
 
-none-at : (s : List ℕ) (at : ℕ) → drop at s ≡ [] → recordAt s at ≡ End
+pub none-at : (s : List ℕ) (at : ℕ) → drop at s ≡ [] → recordAt s at ≡ End
 unfolding recordAt isWhole
 none-at s at e = rw e
 

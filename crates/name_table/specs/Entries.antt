@@ -187,6 +187,32 @@ owned (name k n ∷ es) = leading 15 es ∷ owned es
 owned (resource d ∷ es) = owned es
 owned (mask m ∷ es) = owned es
 
+-- none of some entries is a mask; none is a name
+abbrev pub NoMask : List Entry → Type 0
+NoMask [] = Unit
+NoMask (name k n ∷ es) = NoMask es
+NoMask (resource d ∷ es) = NoMask es
+NoMask (mask m ∷ es) = ⊥
+
+abbrev pub NoName : List Entry → Type 0
+NoName [] = Unit
+NoName (name k n ∷ es) = ⊥
+NoName (resource d ∷ es) = NoName es
+NoName (mask m ∷ es) = NoName es
+
+-- In plain words, the mask of a record, by the entries between its name and itself: that of the last kind 6 among them, or 15 if there is
+-- none.
+pub data MaskAfter (between : List Entry) (m : ℕ) : Type 0 where
+  last : (xs ys : List Entry) → between ≡ xs ++ (mask m ∷ ys) → NoMask ys → MaskAfter between m
+  none : NoMask between → m ≡ 15 → MaskAfter between m
+
+-- among some records with their masks, o has the number j
+pub record IsNumber (os : List Owned) (j : ℕ) (o : Owned) : Type 0 where
+  pub earlier : List Owned
+  pub later : List Owned
+  pub are : os ≡ earlier ++ (o ∷ later)
+  pub number : length earlier ≡ j
+
 -- the records of a name that are valid on interface i, in order
 abbrev pub validFor : ℕ → List Owned → List Data
 validFor i [] = []

@@ -4,4 +4,5 @@ pub mod Masks
 pub mod Check
 pub mod Entries
 pub mod Records
+pub mod Before
 pub mod Shown
