@@ -10,13 +10,16 @@ use borrow.Author.Tests.{lt-ltb, le-ltb, le-leb, lt-leb, ltb-true, ltb-false}
 use borrow.Rule.Slice.PartMut.{midOf, putMid}
 use Rattle.octets.specs.Octets.{splice, put}
 use Rattle.octets.specs.Words.{bigOctets}
-use Rattle.octets.proofs.Tests.{split, never}
+use Rattle.octets.specs.Tests.{_and_}
+use Rattle.octets.proofs.Tests.{split, never, both}
 use Rattle.octets.proofs.Splice.{splice-none, splice-start, splice-splice, length-splice, part-after, put-in, put-after, drop-splice}
+use Rattle.name_table.specs.Bounds.{everywhere}
+use Rattle.name_table.specs.Masks.{isValid}
 use Rattle.name_table.specs.Entries.{Answer}
-use Rattle.name_table.specs.Records.{recordAt, recordsOf, answerIn}
+use Rattle.name_table.specs.Records.{recordAt, Masked, recordsUnder, validOn, answerIn}
 use Rattle.name_table.specs.declared.Record.{Record}
-use Rattle.name_table.specs.declared.RecordRead.the-variants.{Good, End}
-use Rattle.name_table.proofs.Records.{record-inside, records-turn}
+use Rattle.name_table.specs.declared.RecordRead.the-variants.{Good, Mask, End}
+use Rattle.name_table.proofs.Records.{read-is-inside, records-turn}
 use Rattle.message.specs.declared.Answers.{Answers}
 use Rattle.message.specs.declared.ReplyHead.{ReplyHead}
 use Rattle.message.specs.Bounds.{headerOctets, classIN, replyTTL, beforeData}
@@ -155,34 +158,55 @@ taken-are limit qtype used (a ∷ rest) h =
 
 -- ---- the loop that writes the answers
 
--- the answers from a record of the table on
-module _ (table : List ℕ) (p : ℕ) where
-  pub answers-on : (r : Record) → recordAt table p ≡ Good r → answersIn table p ≡ answerIn table r ∷ answersIn table (r .end)
-  answers-on r e =
-      let q : recordsOf table p ≡ r ∷ recordsOf table (r .end) = records-turn table p ∙ rw e in
-      ap (map (answerIn table)) q
+-- the answers that are valid on interface i, from an offset of the table on, under a mask
+abbrev pub answersUnder : ℕ → List ℕ → ℕ → ℕ → List Answer
+answersUnder i table m p = map (answerIn table) (validOn i (recordsUnder table m p))
 
-  pub answers-end : recordAt table p ≡ End → answersIn table p ≡ []
+module _ (i : ℕ) (table : List ℕ) (m p : ℕ) where
+  pub answers-on : (r : Record) → recordAt table p ≡ Good r → isValid m i ≡ true
+      → answersUnder i table m p ≡ answerIn table r ∷ answersUnder i table m (r .end)
+  unfolding validOn
+  answers-on r e v =
+      let q : recordsUnder table m p ≡ record { valid = m; held = r } ∷ recordsUnder table m (r .end) = records-turn table m p ∙ rw e in
+      ap (λ (x : List Masked). map (answerIn table) (validOn i x)) q ∙ rw v
+
+  pub answers-off : (r : Record) → recordAt table p ≡ Good r → isValid m i ≡ false → answersUnder i table m p ≡ answersUnder i table m (r .end)
+  unfolding validOn
+  answers-off r e v =
+      let q : recordsUnder table m p ≡ record { valid = m; held = r } ∷ recordsUnder table m (r .end) = records-turn table m p ∙ rw e in
+      ap (λ (x : List Masked). map (answerIn table) (validOn i x)) q ∙ rw v
+
+  pub answers-mask : (l end : ℕ) → recordAt table p ≡ Mask l end → answersUnder i table m p ≡ answersUnder i table l end
+  answers-mask l end e =
+      let q : recordsUnder table m p ≡ recordsUnder table l end = records-turn table m p ∙ rw e in
+      ap (λ (x : List Masked). map (answerIn table) (validOn i x)) q
+
+  pub answers-end : recordAt table p ≡ End → answersUnder i table m p ≡ []
+  unfolding validOn
   answers-end e =
-      let q : recordsOf table p ≡ [] = records-turn table p ∙ rw e in
-      ap (map (answerIn table)) q
+      let q : recordsUnder table m p ≡ [] = records-turn table m p ∙ rw e in
+      ap (λ (x : List Masked). map (answerIn table) (validOn i x)) q
 
 -- The answers so far stand in the buffer, which was `before`, after the octets used; those that are still to be taken are the ones
--- that are taken of the rest, which the table holds from p on.
-pub record Filling (before : List ℕ) (limit qtype used : ℕ) (table : List ℕ) (at : ℕ) (out : List ℕ) (end count p : ℕ) : Type 0 where
+-- that are taken of the rest, which the table holds from p on, under a mask that is valid here or not.
+pub record Filling (before : List ℕ) (limit qtype i used : ℕ) (table : List ℕ) (at : ℕ) (out : List ℕ) (end count p : ℕ) (here : Bool) : Type 0 where
+  pub mask : ℕ
+  pub here-is : here ≡ isValid mask i
   pub so-far : List Answer
   pub fits : used ≤ end
   pub inside : end ≤ limit
   pub end-is : end ≡ used + length (answersOctets so-far)
   pub out-is : out ≡ splice before used (answersOctets so-far)
   pub count-is : count ≡ length so-far
-  pub taken : takenFrom limit qtype used (answersIn table at) .answers ≡ so-far ++ takenFrom limit qtype end (answersIn table p) .answers
-  pub cut : takenFrom limit qtype used (answersIn table at) .cut ≡ takenFrom limit qtype end (answersIn table p) .cut
+  pub taken : takenFrom limit qtype used (answersIn i table at) .answers ≡ so-far ++ takenFrom limit qtype end (answersUnder i table mask p) .answers
+  pub cut : takenFrom limit qtype used (answersIn i table at) .cut ≡ takenFrom limit qtype end (answersUnder i table mask p) .cut
 
-pub filling-begin : (before : List ℕ) (limit qtype used : ℕ) (table : List ℕ) (at : ℕ) → used ≤ limit
-    → Filling before limit qtype used table at before used 0 at
-filling-begin before limit qtype used table at h =
+pub filling-begin : (before : List ℕ) (limit qtype i used : ℕ) (table : List ℕ) (at : ℕ) (here : Bool) → used ≤ limit → here ≡ isValid everywhere i
+    → Filling before limit qtype i used table at before used 0 at here
+filling-begin before limit qtype i used table at here h e =
     record {
+      mask = everywhere;
+      here-is = e;
       so-far = [];
       fits = omega arith;
       inside = h;
@@ -193,8 +217,8 @@ filling-begin before limit qtype used table at h =
       cut = refl;
     }
 
-module _ {before : List ℕ} {limit qtype used : ℕ} {table : List ℕ} {at : ℕ} {out : List ℕ} {end count p : ℕ}
-    (f : Filling before limit qtype used table at out end count p) (room : limit ≤ length before) where
+module _ {before : List ℕ} {limit qtype i used : ℕ} {table : List ℕ} {at : ℕ} {out : List ℕ} {end count p : ℕ} {here : Bool}
+    (f : Filling before limit qtype i used table at out end count p here) (room : limit ≤ length before) where
   -- the buffer keeps its length, and there are no more answers than octets
   pub filling-length : length out ≡ length before
   filling-length =
@@ -205,10 +229,10 @@ module _ {before : List ℕ} {limit qtype used : ℕ} {table : List ℕ} {at : �
   filling-count = omega (arith, f .end-is, f .count-is, octets-count (f .so-far))
 
   -- nothing more is taken
-  filled : (c : Bool) → takenFrom limit qtype end (answersIn table p) ≡ record { answers = []; cut = c }
-      → Filled (record { end = end; count = count; cut = c }) used before out (takenFrom limit qtype used (answersIn table at))
+  filled : (c : Bool) → takenFrom limit qtype end (answersUnder i table (f .mask) p) ≡ record { answers = []; cut = c }
+      → Filled (record { end = end; count = count; cut = c }) used before out (takenFrom limit qtype used (answersIn i table at))
   filled c e =
-      let all : takenFrom limit qtype used (answersIn table at) .answers ≡ f .so-far =
+      let all : takenFrom limit qtype used (answersIn i table at) .answers ≡ f .so-far =
       f .taken ∙ ap (λ (t : Taken). f .so-far ++ t .answers) e ∙ append-nil (f .so-far) in
       record {
         end = f .end-is ∙ ap (λ (l : List Answer). used + length (answersOctets l)) (sym all);
@@ -218,63 +242,88 @@ module _ {before : List ℕ} {limit qtype used : ℕ} {table : List ℕ} {at : �
       }
 
   pub filled-end : recordAt table p ≡ End
-      → Filled (record { end = end; count = count; cut = false }) used before out (takenFrom limit qtype used (answersIn table at))
-  filled-end e = filled false (ap (takenFrom limit qtype end) (answers-end table p e) ∙ taken-none limit qtype end)
+      → Filled (record { end = end; count = count; cut = false }) used before out (takenFrom limit qtype used (answersIn i table at))
+  filled-end e = filled false (ap (takenFrom limit qtype end) (answers-end i table (f .mask) p e) ∙ taken-none limit qtype end)
+
+  -- nothing is written: what is still to be taken stands from another offset on, under a mask
+  moved : (m q : ℕ) (b : Bool) → b ≡ isValid m i → takenFrom limit qtype end (answersUnder i table (f .mask) p) ≡ takenFrom limit qtype end (answersUnder i table m q)
+      → Filling before limit qtype i used table at out end count q b
+  moved m q b v e =
+      record {
+        mask = m;
+        here-is = v;
+        so-far = f .so-far;
+        fits = f .fits;
+        inside = f .inside;
+        end-is = f .end-is;
+        out-is = f .out-is;
+        count-is = f .count-is;
+        taken = f .taken ∙ ap (λ (t : Taken). f .so-far ++ t .answers) e;
+        cut = f .cut ∙ ap (λ (t : Taken). t .cut) e;
+      }
+
+  -- a mask is that of the records after it
+  pub filling-mask : (l q : ℕ) (b : Bool) → recordAt table p ≡ Mask l q → b ≡ isValid l i → Filling before limit qtype i used table at out end count q b
+  filling-mask l q b e v = moved l q b v (ap (takenFrom limit qtype end) (answers-mask i table (f .mask) p l q e))
 
   module _ (r : Record) (e : recordAt table p ≡ Good r) where
-    turn : takenFrom limit qtype end (answersIn table p) ≡ takenFrom limit qtype end (answerIn table r ∷ answersIn table (r .end))
-    turn = ap (takenFrom limit qtype end) (answers-on table p r e)
+    module _ (k : here and isAsked qtype (r .rtype) ≡ true) where
+      asked : isAsked qtype (r .rtype) ≡ true
+      asked = both here _ .0 k .1
 
-    -- the walk over the table comes nearer to its end
-    pub filling-nearer : length table - r .end < length table - p
-    filling-nearer = let i = record-inside table p r e in omega (arith, i .0, i .1)
+      turn : takenFrom limit qtype end (answersUnder i table (f .mask) p) ≡ takenFrom limit qtype end (answerIn table r ∷ answersUnder i table (f .mask) (r .end))
+      turn = ap (takenFrom limit qtype end) (answers-on i table (f .mask) p r e (sym (f .here-is) ∙ both here _ .0 k .0))
 
-    pub filled-cut : isAsked qtype (r .rtype) ≡ true → limit < end + length (answerOctets (answerIn table r))
-        → Filled (record { end = end; count = count; cut = true }) used before out (takenFrom limit qtype used (answersIn table at))
-    filled-cut k h = filled true (turn ∙ taken-cut limit qtype end (answerIn table r) (answersIn table (r .end)) k h)
+      pub filled-cut : limit < end + length (answerOctets (answerIn table r))
+          → Filled (record { end = end; count = count; cut = true }) used before out (takenFrom limit qtype used (answersIn i table at))
+      filled-cut h = filled true (turn ∙ taken-cut limit qtype end (answerIn table r) (answersUnder i table (f .mask) (r .end)) asked h)
 
-    pub filling-skip : isAsked qtype (r .rtype) ≡ false → Filling before limit qtype used table at out end count (r .end)
+      one-more : (y : List ℕ) → end + length (answerOctets (answerIn table r)) ≤ limit
+          → y ≡ splice (midOf end (length out - end) out) 0 (answerOctets (answerIn table r))
+          → Filling before limit qtype i used table at (putMid end (length out - end) out y) (end + length (answerOctets (answerIn table r))) (count + 1) (r .end) here
+      one-more y h w =
+          let a : Answer = answerIn table r in
+          let xs : List ℕ = answersOctets (f .so-far) in
+          let one = octets-of-one (f .so-far) a in
+          let q = turn ∙ taken-on limit qtype end a (answersUnder i table (f .mask) (r .end)) asked h in
+          let g : end + length (answerOctets a) ≤ length before = omega arith in
+          record {
+            mask = f .mask;
+            here-is = f .here-is;
+            so-far = f .so-far ++ (a ∷ []);
+            fits = omega (arith, f .fits);
+            inside = h;
+            end-is = omega (arith, f .end-is, ap length one, length-append xs (answerOctets a));
+            out-is = part-after before xs (answerOctets a) out y used end (f .end-is) (f .out-is) g w ∙ ap (splice before used) (sym one);
+            count-is = omega (arith, f .count-is, length-append (f .so-far) (a ∷ []));
+            taken = f .taken ∙ ap (λ (t : Taken). f .so-far ++ t .answers) q ∙ sym (append-assoc (f .so-far) (a ∷ []) (takenFrom limit qtype (end + length (answerOctets a)) (answersUnder i table (f .mask) (r .end)) .answers));
+            cut = f .cut ∙ ap (λ (t : Taken). t .cut) q;
+          }
+
+      -- the same as the code has it: the answer's data is the part o of the table
+      pub filling-put : (o y : List ℕ) → o ≡ answerIn table r .octets → end + (beforeData + length o) ≤ limit
+          → y ≡ splice (midOf end (length out - end) out) 0 (answerOctets (record { rtype = r .rtype; octets = o }))
+          → Filling before limit qtype i used table at (putMid end (length out - end) out y) (end + (beforeData + length o)) (count + 1) (r .end) here
+      filling-put o y q h w =
+          let n : end + length (answerOctets (answerIn table r)) ≡ end + (beforeData + length o) = omega (arith, ap length q) in
+          subst (λ (m : ℕ). Filling before limit qtype i used table at (putMid end (length out - end) out y) m (count + 1) (r .end) here) n
+          (one-more y (omega arith) (w ∙ ap (λ (x : List ℕ). splice (midOf end (length out - end) out) 0 (answerOctets (record { rtype = r .rtype; octets = x }))) q))
+
+    -- a record that is not valid here, or not asked for
+    pub filling-skip : here and isAsked qtype (r .rtype) ≡ false → Filling before limit qtype i used table at out end count (r .end) here
     filling-skip k =
-        let q = turn ∙ taken-skip limit qtype end (answerIn table r) (answersIn table (r .end)) k in
-        record {
-          so-far = f .so-far;
-          fits = f .fits;
-          inside = f .inside;
-          end-is = f .end-is;
-          out-is = f .out-is;
-          count-is = f .count-is;
-          taken = f .taken ∙ ap (λ (t : Taken). f .so-far ++ t .answers) q;
-          cut = f .cut ∙ ap (λ (t : Taken). t .cut) q;
-        }
+        moved (f .mask) (r .end) here (f .here-is)
+        (split here
+        (λ y. ap (takenFrom limit qtype end) (answers-on i table (f .mask) p r e (sym (f .here-is) ∙ y))
+        ∙ taken-skip limit qtype end (answerIn table r) (answersUnder i table (f .mask) (r .end)) (rw y at k))
+        (λ y. ap (takenFrom limit qtype end) (answers-off i table (f .mask) p r e (sym (f .here-is) ∙ y))))
 
-    one-more : (y : List ℕ) → isAsked qtype (r .rtype) ≡ true → end + length (answerOctets (answerIn table r)) ≤ limit
-        → y ≡ splice (midOf end (length out - end) out) 0 (answerOctets (answerIn table r))
-        → Filling before limit qtype used table at (putMid end (length out - end) out y) (end + length (answerOctets (answerIn table r))) (count + 1) (r .end)
-    one-more y k h w =
-        let a : Answer = answerIn table r in
-        let xs : List ℕ = answersOctets (f .so-far) in
-        let one = octets-of-one (f .so-far) a in
-        let q = turn ∙ taken-on limit qtype end a (answersIn table (r .end)) k h in
-        let g : end + length (answerOctets a) ≤ length before = omega arith in
-        record {
-          so-far = f .so-far ++ (a ∷ []);
-          fits = omega (arith, f .fits);
-          inside = h;
-          end-is = omega (arith, f .end-is, ap length one, length-append xs (answerOctets a));
-          out-is = part-after before xs (answerOctets a) out y used end (f .end-is) (f .out-is) g w ∙ ap (splice before used) (sym one);
-          count-is = omega (arith, f .count-is, length-append (f .so-far) (a ∷ []));
-          taken = f .taken ∙ ap (λ (t : Taken). f .so-far ++ t .answers) q ∙ sym (append-assoc (f .so-far) (a ∷ []) (takenFrom limit qtype (end + length (answerOctets a)) (answersIn table (r .end)) .answers));
-          cut = f .cut ∙ ap (λ (t : Taken). t .cut) q;
-        }
+-- the walk over the table comes nearer to its end
+pub nearer-record : (table : List ℕ) (p : ℕ) (r : Record) → recordAt table p ≡ Good r → length table - r .end < length table - p
+nearer-record table p r e = let i = read-is-inside table p (Good r) e in omega (arith, i .0, i .1)
 
-    -- the same as the code has it: the answer's data is the part o of the table
-    pub filling-put : (o y : List ℕ) → o ≡ answerIn table r .octets → isAsked qtype (r .rtype) ≡ true → end + (beforeData + length o) ≤ limit
-        → y ≡ splice (midOf end (length out - end) out) 0 (answerOctets (record { rtype = r .rtype; octets = o }))
-        → Filling before limit qtype used table at (putMid end (length out - end) out y) (end + (beforeData + length o)) (count + 1) (r .end)
-    filling-put o y q k h w =
-        let n : end + length (answerOctets (answerIn table r)) ≡ end + (beforeData + length o) = omega (arith, ap length q) in
-        subst (λ (m : ℕ). Filling before limit qtype used table at (putMid end (length out - end) out y) m (count + 1) (r .end)) n
-        (one-more y k (omega arith) (w ∙ ap (λ (x : List ℕ). splice (midOf end (length out - end) out) 0 (answerOctets (record { rtype = r .rtype; octets = x }))) q))
+pub nearer-mask : (table : List ℕ) (p l end : ℕ) → recordAt table p ≡ Mask l end → length table - end < length table - p
+nearer-mask table p l end e = let i = read-is-inside table p (Mask l end) e in omega (arith, i .0, i .1)
 
 -- ---- the reply
 

@@ -17,14 +17,15 @@ use Rattle.names.specs.Readings.{pointer, ReadingAt}
 use Rattle.names.proofs.Names.{encode-some, name-inside}
 use Rattle.names.proofs.Readings.{expands}
 use Rattle.names.proofs.Plain.{plain-reading, reading-labels}
-use Rattle.name_table.specs.Bounds.{entryHead, typeA, typeAAAA, typePTR}
+use Rattle.name_table.specs.Bounds.{everywhere, entryHead, typeA, typeAAAA, typePTR}
 use Rattle.name_table.specs.Entries.{Answer}
 use Rattle.name_table.specs.Kinds.{kindOf}
+use Rattle.name_table.specs.Masks.{isValid}
 use Rattle.name_table.specs.Check.{isWhole, kindAt, lengthAt}
-use Rattle.name_table.specs.Records.{recordBy, recordAt, onRecord, recordsFrom, answerIn}
+use Rattle.name_table.specs.Records.{recordBy, recordAt, onRecord, recordsFrom, validOn, answerIn}
 use Rattle.name_table.specs.declared.Record.{Record}
 use Rattle.name_table.specs.declared.RecordRead.{RecordRead}
-use Rattle.name_table.specs.declared.RecordRead.the-variants.{Good as Found, End}
+use Rattle.name_table.specs.declared.RecordRead.the-variants.{Good as Found, Mask, End}
 use Rattle.message.specs.declared.ReplyHead.{ReplyHead}
 use Rattle.message.specs.declared.ResourceRecord.{ResourceRecord}
 use Rattle.message.specs.Bounds.{headerOctets, classIN, replyTTL, ownerOctets, beforeData}
@@ -229,15 +230,16 @@ module _ (limit : ℕ) (head : ReplyHead) (question : List ℕ) (qtype : ℕ) (a
 
 -- ---- the answers of a table
 
-type-of : (n start end : ℕ) (r : Record) → recordBy (kindOf n) start end ≡ Found r → r .rtype < 65536
+type-of : (n : ℕ) (u : List ℕ) (start end : ℕ) (r : Record) → recordBy (kindOf n) u start end ≡ Found r → r .rtype < 65536
 unfolding recordBy kindOf
-type-of n start end r e =
+type-of n u start end r e =
     split (eqb n 1) (λ k1. absurd (let z : _≡_ {A = ℕ} 0 1 = cc (rw k1 at e) in omega arith)) λ k1.
     split (eqb n 2) (λ k2. absurd (let z : _≡_ {A = ℕ} 0 1 = cc (rw (k1, k2) at e) in omega arith)) λ k2.
     split (eqb n 3) (λ k3. known typeA (rw (k1, k2, k3) at e) (omega arith)) λ k3.
     split (eqb n 4) (λ k4. known typeAAAA (rw (k1, k2, k3, k4) at e) (omega arith)) λ k4.
     split (eqb n 5) (λ k5. known typePTR (rw (k1, k2, k3, k4, k5) at e) (omega arith)) λ k5.
-    absurd (let z : _≡_ {A = ℕ} 0 1 = cc (rw (k1, k2, k3, k4, k5) at e) in omega arith)
+    split (eqb n 6) (λ k6. absurd (let z : _≡_ {A = ℕ} 0 1 = cc (rw (k1, k2, k3, k4, k5, k6) at e) in omega arith)) λ k6.
+    absurd (let z : _≡_ {A = ℕ} 0 1 = cc (rw (k1, k2, k3, k4, k5, k6) at e) in omega arith)
   where
     known : (t : ℕ) → Found (record { rtype = t; start = start; end = end }) ≡ Found r → t < 65536 → r .rtype < 65536
     known t f h =
@@ -249,22 +251,23 @@ unfolding recordAt
 record-data table at r o e =
     split (isWhole (drop at table))
     (λ p. record {
-      rtype = type-of (kindAt (drop at table)) (at + entryHead) (at + lengthAt (drop at table)) r (rw p at e);
+      rtype = type-of (kindAt (drop at table)) (drop at table) (at + entryHead) (at + lengthAt (drop at table)) r (rw p at e);
       octets = octets-part table (r .start) (r .end) o;
     })
     (λ p. absurd (let z : _≡_ {A = ℕ} 0 1 = cc (rw p at e) in omega arith))
 
-records-data : (k : ℕ) (table : List ℕ) (at : ℕ) → Octets table → AreData (map (answerIn table) (recordsFrom k table at))
-unfolding recordsFrom
-records-data zero table at o = tt
-records-data (suc k) table at o = go (recordAt table at) refl (λ r. records-data k table (r .end) o)
+records-data : (i k : ℕ) (table : List ℕ) (m at : ℕ) → Octets table → AreData (map (answerIn table) (validOn i (recordsFrom k table m at)))
+unfolding recordsFrom validOn
+records-data i zero table m at o = tt
+records-data i (suc k) table m at o = go (recordAt table at) refl (λ l end. records-data i k table l end o)
   where
     go : (x : RecordRead) → recordAt table at ≡ x
-        → ((r : Record) → AreData (map (answerIn table) (recordsFrom k table (r .end))))
-        → AreData (map (answerIn table) (onRecord x (λ r. recordsFrom k table (r .end))))
-    go (Found r) e f = (record-data table at r o e, f r)
+        → ((l end : ℕ) → AreData (map (answerIn table) (validOn i (recordsFrom k table l end))))
+        → AreData (map (answerIn table) (validOn i (onRecord x m (recordsFrom k table))))
+    go (Found r) e f = split (isValid m i) (λ v. rw v (record-data table at r o e, f m (r .end))) (λ v. rw v (f m (r .end)))
+    go (Mask l end) e f = f l end
     go End e f = tt
 
 -- Every record of a table fits into a message.
-pub table-data : (table : List ℕ) (at : ℕ) → Octets table → AreData (answersIn table at)
-table-data table at o = records-data (suc (length table)) table at o
+pub table-data : (i : ℕ) (table : List ℕ) (at : ℕ) → Octets table → AreData (answersIn i table at)
+table-data i table at o = records-data i (suc (length table)) table everywhere at o

@@ -11,7 +11,7 @@ use Rattle.octets.specs.Octets.{Octets, partOf, put, splice}
 use Rattle.octets.specs.Words.{bigOctets}
 use Rattle.names.specs.RecordNameWalk.{expandedAt}
 use Rattle.name_table.specs.Entries.{Answer}
-use Rattle.name_table.specs.Records.{recordsOf, answerIn}
+use Rattle.name_table.specs.Records.{recordsOf, validOn, answerIn}
 use Rattle.message.specs.declared.Answers.{Answers}
 use Rattle.message.specs.declared.Header.{Header}
 use Rattle.message.specs.declared.ReplyHead.{ReplyHead}
@@ -101,9 +101,9 @@ replyHeader id c tc t n =
       additionals = 0;
     }
 
--- the records of a name, from an offset of the table on
-abbrev pub answersIn : List ℕ → ℕ → List Answer
-answersIn table at = map (answerIn table) (recordsOf table at)
+-- the records of a name that are valid on interface i, from an offset of the table on
+abbrev pub answersIn : ℕ → List ℕ → ℕ → List Answer
+answersIn i table at = map (answerIn table) (validOn i (recordsOf table at))
 
 -- the reply to a question of a type, with those of some records that are asked for
 abbrev pub replyTo : ℕ → ReplyHead → List ℕ → ℕ → List Answer → List ℕ

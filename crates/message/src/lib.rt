@@ -1,15 +1,16 @@
-// Messages: header, question, resource records, queries and replies, read and written.
+// Messages: header, question and resource records, read; queries, written. Replies are written in replies.rt.
 ghost use mathlib.Core.Path.{_≡_};
 ghost use mathlib.Core.List.{[]};
 ghost use Prim.Native.Nat.{_+_, _<_, _≤_};
 ghost use lib.ListN.{length};
 ghost use Rattle.octets.specs.Octets.{put, splice};
-ghost use Rattle.message.specs.Bounds.{headerOctets, fixedOctets, ownerOctets};
+ghost use Rattle.message.specs.Bounds.{headerOctets};
 ghost use Rattle.message.specs.Header.{isSet, headerOf, headerAt};
 ghost use Rattle.message.specs.Question.{questionAt, questionOctets};
 ghost use Rattle.message.specs.Records.{recordAt, walkFrom};
 ghost use Rattle.message.specs.Query.{queryOctets};
-ghost use Rattle.message.specs.Reply.{replyFlags, isAsked, answerOctets, takenFrom, answersIn, replyWritten, Filled};
+
+pub mod replies;
 
 // The header of a message. RFC 4795's C is the conflict flag, T the tentative flag.
 pub struct Header {
@@ -247,148 +248,9 @@ pub struct ReplyHead {
     pub tentative: bool,
 }
 
-// The flags of a reply: QR is set, then C, TC and T as given.
-fn reply_flags(conflict: bool, truncated: bool, tentative: bool) -> [u8; 2]
-    ensures { λ r. ⌜ r ≡ replyFlags conflict truncated tentative ⌝ }
-{
-    if conflict {
-        if truncated {
-            if tentative {
-                *b"\x87\x00"
-            } else {
-                *b"\x86\x00"
-            }
-        } else {
-            if tentative {
-                *b"\x85\x00"
-            } else {
-                *b"\x84\x00"
-            }
-        }
-    } else {
-        if truncated {
-            if tentative {
-                *b"\x83\x00"
-            } else {
-                *b"\x82\x00"
-            }
-        } else {
-            if tentative {
-                *b"\x81\x00"
-            } else {
-                *b"\x80\x00"
-            }
-        }
-    }
-}
-
-// Whether a question of a type asks for records of a type.
-fn is_asked(qtype: u16, rtype: u16) -> bool
-    ensures { λ r. ⌜ r ≡ isAsked qtype rtype ⌝ }
-{
-    if rtype == qtype {
-        return true;
-    }
-    if qtype == ResourceRecord::ANY {
-        true
-    } else {
-        false
-    }
-}
-
-// Writes an answer at the start of a part that has room: its owner is a pointer to the question's name.
-fn put_answer(part: &mut [u8], rtype: u16, rdata: &[u8])
-    requires { ⌜ (ownerOctets + fixedOctets + length (now rdata) ≤ length (now part)) × (length (now rdata) < 65536) ⌝ }
-    ensures { λ r. ⌜ now (part .exit) ≡ splice (now (part .entry)) 0 (answerOctets (record { rtype = rtype; octets = now (rdata .entry) })) ⌝ }
-{
-    octets::put_octets(part, 0, b"\xc0\x0c");
-    octets::put_big(part, 2, rtype);
-    octets::put_big(part, 4, ResourceRecord::IN);
-    octets::put_big(part, 6, 0);
-    octets::put_big(part, 8, ResourceRecord::TTL);
-    octets::put_big(part, 10, rdata.len() as u16);
-    octets::put_octets(part, ResourceRecord::ANSWER, rdata);
-}
-
 // Where the answers end, how many there are, and whether one was left out.
 pub struct Answers {
     pub end: usize,
     pub count: u16,
     pub cut: bool,
-}
-
-// Writes the answers of a name whose records begin at an offset of the table, after the octets used, until the first that would
-// pass the limit.
-fn put_answers(
-    out: &mut [u8],
-    limit: usize,
-    qtype: u16,
-    used: usize,
-    table: &[u8],
-    at: usize,
-) -> Answers
-    requires { ⌜ (limit ≤ length (now out)) × (limit < 65536) × (used ≤ limit) ⌝ }
-    ensures { λ r. ⌜ Filled r used (now (out .entry)) (now (out .exit)) (takenFrom limit qtype used (answersIn (now (table .entry)) at)) ⌝ }
-{
-    let mut end = used;
-    let mut count: u16 = 0;
-    let mut p = at;
-    loop {
-        let read = name_table::record_at(table, p);
-        let name_table::RecordRead::Good(r) = read else {
-            return Answers {
-                end: end,
-                count: count,
-                cut: false,
-            };
-        };
-        let start = r.start;
-        p = r.end;
-        if is_asked(qtype, r.rtype) {
-            let rdata = octets::part(table, start, p);
-            let size = ResourceRecord::ANSWER + rdata.len();
-            if octets::runs_past(limit, end, size) {
-                return Answers {
-                    end: end,
-                    count: count,
-                    cut: true,
-                };
-            }
-            put_answer(&mut out[end..], r.rtype, rdata);
-            end = end + size;
-            count = count + 1;
-        }
-    }
-}
-
-// Writes a reply: the question's octets as received, then the records of a name that its type asks for, from an offset of the
-// table on, as many as the limit lets in. Gives its length; nothing is written, and the length is 0, where there is no room.
-pub fn write_reply(
-    out: &mut [u8],
-    limit: u16,
-    head: ReplyHead,
-    question: &[u8],
-    qtype: u16,
-    table: &[u8],
-    at: usize,
-) -> usize
-    ensures { λ r. ⌜ record { len = r; octets = now (out .exit) } ≡ replyWritten (now (out .entry)) limit head (now (question .entry)) qtype (answersIn (now (table .entry)) at) ⌝ }
-{
-    let room = limit as usize;
-    let used = Header::OCTETS + question.len();
-    if out.len() < room {
-        return 0;
-    }
-    if room < used {
-        return 0;
-    }
-    octets::put_octets(out, Header::OCTETS, question);
-    let answers = put_answers(out, room, qtype, used, table, at);
-    let flags = reply_flags(head.conflict, answers.cut, head.tentative);
-    octets::put_big(out, 0, head.id);
-    octets::put_octets(out, 2, &flags);
-    octets::put_octets(out, 4, b"\x00\x01");
-    octets::put_big(out, 6, answers.count);
-    octets::put_octets(out, 8, b"\x00\x00\x00\x00");
-    answers.end
 }

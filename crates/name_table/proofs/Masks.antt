@@ -15,24 +15,28 @@ use Rattle.name_table.specs.Entries.{NameKind, Data, Entry, name, resour
 -- ---- bits
 
 bit-1 : (m : ℕ) → (isOdd m ≡ true) ↔ HasBit 1 m
-bit-1 m =
-    (λ e. let h : m % 2 ≡ 1 = eqb-true _ _ e in record { below = 0; above = m / 2; less = omega arith; sum = omega arith },
-    λ b. eq-eqb (m % 2) 1 (omega (arith, b .less, b .sum)))
+bit-1 m = (
+  λ e. let h : m % 2 ≡ 1 = eqb-true _ _ e in record { below = 0; above = m / 2; less = omega arith; sum = omega arith },
+  λ b. eq-eqb (m % 2) 1 (omega (arith, b .less, b .sum)),
+)
 
 bit-2 : (m : ℕ) → (isOdd (m / 2) ≡ true) ↔ HasBit 2 m
-bit-2 m =
-    (λ e. let h : m / 2 % 2 ≡ 1 = eqb-true _ _ e in record { below = m % 2; above = m / 4; less = omega arith; sum = omega arith },
-    λ b. eq-eqb (m / 2 % 2) 1 (omega (arith, b .less, b .sum)))
+bit-2 m = (
+  λ e. let h : m / 2 % 2 ≡ 1 = eqb-true _ _ e in record { below = m % 2; above = m / 4; less = omega arith; sum = omega arith },
+  λ b. eq-eqb (m / 2 % 2) 1 (omega (arith, b .less, b .sum)),
+)
 
 bit-4 : (m : ℕ) → (isOdd (m / 4) ≡ true) ↔ HasBit 4 m
-bit-4 m =
-    (λ e. let h : m / 4 % 2 ≡ 1 = eqb-true _ _ e in record { below = m % 4; above = m / 8; less = omega arith; sum = omega arith },
-    λ b. eq-eqb (m / 4 % 2) 1 (omega (arith, b .less, b .sum)))
+bit-4 m = (
+  λ e. let h : m / 4 % 2 ≡ 1 = eqb-true _ _ e in record { below = m % 4; above = m / 8; less = omega arith; sum = omega arith },
+  λ b. eq-eqb (m / 4 % 2) 1 (omega (arith, b .less, b .sum)),
+)
 
 bit-8 : (m : ℕ) → (isOdd (m / 8) ≡ true) ↔ HasBit 8 m
-bit-8 m =
-    (λ e. let h : m / 8 % 2 ≡ 1 = eqb-true _ _ e in record { below = m % 8; above = m / 16; less = omega arith; sum = omega arith },
-    λ b. eq-eqb (m / 8 % 2) 1 (omega (arith, b .less, b .sum)))
+bit-8 m = (
+  λ e. let h : m / 8 % 2 ≡ 1 = eqb-true _ _ e in record { below = m % 8; above = m / 16; less = omega arith; sum = omega arith },
+  λ b. eq-eqb (m / 8 % 2) 1 (omega (arith, b .less, b .sum)),
+)
 
 no-bit : (m i : ℕ) → isValid m (suc (suc (suc (suc i)))) ≡ false
 unfolding isValid

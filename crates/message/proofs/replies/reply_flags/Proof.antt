@@ -1,6 +1,6 @@
--- `message::reply_flags` meets its contract.
-use Rattle.message.proofs.reply_flags.Statement.{statement}
-use Rattle.message.proofs.reply_flags.Tie as tie
+-- `message::replies::reply_flags` meets its contract.
+use Rattle.message.proofs.replies.reply_flags.Statement.{statement}
+use Rattle.message.proofs.replies.reply_flags.Tie as tie
 
 returns : tie.Need-returns
 returns c =

@@ -3,8 +3,8 @@ use denote.Ref.{now}
 use borrow.Author.Needs.{needs}
 use Rattle.message.specs.Reply.{answersIn}
 use Rattle.message.proofs.Reply.{reply-short, reply-no-room, reply-written}
-use Rattle.message.proofs.write_reply.Statement.{statement}
-use Rattle.message.proofs.write_reply.Tie as tie
+use Rattle.message.proofs.replies.write_reply.Statement.{statement}
+use Rattle.message.proofs.replies.write_reply.Tie as tie
 
 add-used : tie.Need-add-used
 add-used c = search needs
@@ -12,12 +12,12 @@ add-used c = search needs
 returns : tie.Need-returns
 returns c =
     let a = c .before .before .before .before .args in
-    reply-short (now (a .out)) (a .limit) (a .head) (now (a .question)) (a .qtype) (answersIn (now (a .table)) (a .at)) (c .if1 .taken)
+    reply-short (now (a .out)) (a .limit) (a .head) (now (a .question)) (a .qtype) (answersIn (a .interface) (now (a .table)) (a .at)) (c .if1 .taken)
 
 returns-2 : tie.Need-returns-2
 returns-2 c =
     let a = c .before .before .before .before .before .args in
-    reply-no-room (now (a .out)) (a .limit) (a .head) (now (a .question)) (a .qtype) (answersIn (now (a .table)) (a .at)) (c .before .if1 .left) (c .if2 .taken)
+    reply-no-room (now (a .out)) (a .limit) (a .head) (now (a .question)) (a .qtype) (answersIn (a .interface) (now (a .table)) (a .at)) (c .before .if1 .left) (c .if2 .taken)
 
 put-octets-requires : tie.Need-put-octets-requires
 put-octets-requires c κs = search needs
@@ -68,7 +68,7 @@ returns-3 c =
     let k = w0 .before .before in
     let g = k .before .before .before .before .before in
     let a = g .args in
-    reply-written (now (a .out)) (a .limit) (a .head) (now (a .question)) (a .qtype) (answersIn (now (a .table)) (a .at)) (k .before .if1 .left) (k .if2 .left)
+    reply-written (now (a .out)) (a .limit) (a .head) (now (a .question)) (a .qtype) (answersIn (a .interface) (now (a .table)) (a .at)) (k .before .if1 .left) (k .if2 .left)
     (w1 .put-answers .result) (f .reply-flags .result) (w0 .put-octets .ensures) (w1 .put-answers .ensures) (f .reply-flags .ensures)
     (w2 .put-big .ensures) (w3 .put-octets2 .ensures) (w4 .put-octets3 .ensures) (w5 .put-big2 .ensures) (w6 .put-octets4 .ensures)
 

@@ -2,8 +2,8 @@
 use borrow.Author.Needs.{needs}
 use denote.Ref.{now}
 use Rattle.message.proofs.Reply.{answer-written}
-use Rattle.message.proofs.put_answer.Statement.{statement}
-use Rattle.message.proofs.put_answer.Tie as tie
+use Rattle.message.proofs.replies.put_answer.Statement.{statement}
+use Rattle.message.proofs.replies.put_answer.Tie as tie
 
 slice-aggregate-put-octets : tie.Need-slice-aggregate-put-octets
 slice-aggregate-put-octets c = search needs

@@ -1,7 +1,7 @@
--- `message::is_asked` meets its contract.
+-- `message::replies::is_asked` meets its contract.
 use borrow.Author.Tests.{eq-eqb, ne-eqb}
-use Rattle.message.proofs.is_asked.Statement.{statement}
-use Rattle.message.proofs.is_asked.Tie as tie
+use Rattle.message.proofs.replies.is_asked.Statement.{statement}
+use Rattle.message.proofs.replies.is_asked.Tie as tie
 
 returns : tie.Need-returns
 returns c = rw (eq-eqb _ _ (c .if1 .taken))
