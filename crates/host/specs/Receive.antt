@@ -174,12 +174,12 @@ replied h a w =
 abbrev pub replyHeadOf : Arrival → NameState → ReplyHead
 replyHeadOf a state = record { id = header a .id; conflict = is shared state; tentative = is verifying state }
 
--- the question q for the k-th name is answered
+-- the question q for the k-th name is answered, with those of its records that are valid on the interface asked
 abbrev pub answered : Host → Arrival → Question → ℕ → Done
 answered h a q k =
     replied h a
     (replyWritten (a .out) replyLimit (replyHeadOf a (stateOf h (a .interface) k)) (questionIn a q) (q .qtype)
-    (answersIn (a .table) (nameIn (a .table) k .end)))
+    (answersIn (a .interface) (a .table) (nameIn (a .table) k .end)))
 
 -- a query with the call's ID, flags 0 and the question's octets as received
 abbrev pub defended : Host → Arrival → Question → ℕ → Done

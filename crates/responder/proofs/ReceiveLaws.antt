@@ -169,7 +169,7 @@ module _ (h : Host) (a : Arrival) where
       abbrev reply : Header → Question → NameState → ℕ → Written
       reply y z t e =
           replyWritten (a .out) replyLimit (record { id = y .id; conflict = is shared t; tentative = is verifying t }) (partOf (a .datagram) headerOctets (z .end)) (z .qtype)
-          (answersIn (a .table) e)
+          (answersIn (a .interface) (a .table) e)
 
       pub answers : j ≡ Answer → (v : Written) → v ≡ reply x q s at-records → replied h a v ≡ receive h a
       unfolding judged stateJudged

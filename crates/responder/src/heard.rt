@@ -138,13 +138,14 @@ pub fn answer(
     setting: Setting,
     clock: u64,
     table: &[u8],
+    interface: usize,
     from: Endpoint,
     datagram: &[u8],
     time: u64,
     id: u16,
     out: &mut [u8],
 ) -> Served
-    ensures { λ r. ⌜ ((h : Host) (i : ℕ) (to : Address) → Sees h i setting clock → isOurs settings (from .address) ≡ isOwn h (from .address) → heardBy heard ≡ hearing h (record { table = now (table .entry); interface = i; from = from; to = to; datagram = now (datagram .entry); time = time; id = id; out = now (out .entry) }) → stateOf h (slotOf i) (heard .name) ≡ name .state → Serves r (now (out .exit)) h i (receiveOf h (record { table = now (table .entry); interface = i; from = from; to = to; datagram = now (datagram .entry); time = time; id = id; out = now (out .entry) }))) ⌝ }
+    ensures { λ r. ⌜ ((h : Host) (to : Address) → Sees h interface setting clock → isOurs settings (from .address) ≡ isOwn h (from .address) → heardBy heard ≡ hearing h (record { table = now (table .entry); interface = interface; from = from; to = to; datagram = now (datagram .entry); time = time; id = id; out = now (out .entry) }) → stateOf h (slotOf interface) (heard .name) ≡ name .state → Serves r (now (out .exit)) h interface (receiveOf h (record { table = now (table .entry); interface = interface; from = from; to = to; datagram = now (datagram .entry); time = time; id = id; out = now (out .entry) }))) ⌝ }
 {
     if heard.refused {
         let why = heard.refusal;
@@ -159,7 +160,7 @@ pub fn answer(
     }
     let asked = octets::part(datagram, Header::OCTETS, q.end);
     if let Judged::Answer = judged {
-        let len = reply::write(out, h.id, name, asked, q.qtype, table, heard.records);
+        let len = reply::write(out, h.id, name, asked, q.qtype, interface, table, heard.records);
         return served::reply(time, len, from);
     }
     let ended = contest::settle(name, h, source, setting);

@@ -46,7 +46,7 @@ returns c =
     let i = g .args .interface in
     let p = l .slot .ensures .0 in
     on-host h i _ p (s .answer .result) (c .after .result) _ (c .after .ensures)
-    (s .answer .ensures h i (g .args .to) (sees h i _ p) (rw (f .settings .ensures) (own-settings (h .interfaces) (g .args .from .address)))
+    (s .answer .ensures h (g .args .to) (sees h i _ p) (rw (f .settings .ensures) (own-settings (h .interfaces) (g .args .from .address)))
     (r .hear .ensures h (g .args .id) (now (g .args .out)) (sees h i _ p) refl) (state-there h i _ p _ _ (n .name-at .ensures)))
 
 pub receive-spec : {M : Type 1} → statement M

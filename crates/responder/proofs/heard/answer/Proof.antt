@@ -19,13 +19,13 @@ use borrow.Author.Needs.{needs}
 use Rattle.responder.proofs.heard.answer.Statement.{statement}
 use Rattle.responder.proofs.heard.answer.Tie as tie
 
--- what the call is given, for every interface and destination
+-- what the call is given, for every destination
 module _ (c : tie.Start) where
-  abbrev arrival : ℕ → Address → Arrival
-  arrival i to =
+  abbrev arrival : Address → Arrival
+  arrival to =
       record {
         table = now (c .args .table);
-        interface = i;
+        interface = c .args .interface;
         from = c .args .from;
         to = to;
         datagram = now (c .args .datagram);
@@ -38,9 +38,9 @@ rest-requires : tie.Need-rest-requires
 rest-requires c κs = search needs
 
 returns : tie.Need-returns
-returns c = λ h i to x own heard n.
+returns c = λ h to x own heard n.
     let g = c .before .before .before .before .before in
-    rw (c .rest .ensures) (refused-on h i _ _ _ (x .clock-is) (unheard h (arrival g i to) _ (rw (c .before .if1 .taken) at heard)))
+    rw (c .rest .ensures) (refused-on h _ _ _ _ (x .clock-is) (unheard h (arrival g to) _ (rw (c .before .if1 .taken) at heard)))
 
 judge-requires : tie.Need-judge-requires
 judge-requires c κs = search needs
@@ -53,13 +53,13 @@ module _ (c : tie.After-judge) where
   abbrev given : tie.Start
   given = c .before .before .before .before .before .before .before .before
 
-  well : (h : Host) (i : ℕ) (to : Address) → heardBy (given .args .heard) ≡ hearing h (arrival given i to)
-      → IsHeard h (arrival given i to) (given .args .heard .name) (given .args .heard .records) (given .args .heard .timer) (given .args .heard .header) (given .args .heard .question)
-  well h i to e = heard-so h (arrival given i to) (given .args .heard) (c .before .before .before .before .if1 .left) e
+  well : (h : Host) (to : Address) → heardBy (given .args .heard) ≡ hearing h (arrival given to)
+      → IsHeard h (arrival given to) (given .args .heard .name) (given .args .heard .records) (given .args .heard .timer) (given .args .heard .header) (given .args .heard .question)
+  well h to e = heard-so h (arrival given to) (given .args .heard) (c .before .before .before .before .if1 .left) e
 
-  judged-so : (h : Host) (i : ℕ) (to : Address) → isOurs (given .args .settings) (given .args .from .address) ≡ isOwn h (given .args .from .address)
-      → c .judge .result ≡ judged (given .args .name .state) (given .args .heard .header) (given .args .heard .question) (fromUs h (arrival given i to))
-  judged-so h i to e =
+  judged-so : (h : Host) (to : Address) → isOurs (given .args .settings) (given .args .from .address) ≡ isOwn h (given .args .from .address)
+      → c .judge .result ≡ judged (given .args .name .state) (given .args .heard .header) (given .args .heard .question) (fromUs h (arrival given to))
+  judged-so h to e =
       c .judge .ensures
       ∙ ap (judged (given .args .name .state) (given .args .heard .header) (given .args .heard .question)) e
 
@@ -67,11 +67,11 @@ rest-requires-2 : tie.Need-rest-requires-2
 rest-requires-2 c κs = search needs
 
 returns-2 : tie.Need-returns-2
-returns-2 c = λ h i to x own heard n.
+returns-2 c = λ h to x own heard n.
     let j = c .before .before .before .before in
     rw (c .rest2 .ensures)
-    (refused-on h i _ _ _ (x .clock-is)
-    (refused-judged h (arrival (given j) i to) _ _ _ _ _ (well j h i to heard) _ n (j .judge .result) (judged-so j h i to own) _ (c .before .before .judged .given .1)))
+    (refused-on h _ _ _ _ (x .clock-is)
+    (refused-judged h (arrival (given j) to) _ _ _ _ _ (well j h to heard) _ n (j .judge .result) (judged-so j h to own) _ (c .before .before .judged .given .1)))
 
 part-requires : tie.Need-part-requires
 part-requires c κs = search needs
@@ -89,13 +89,13 @@ same-length : tie.Need-same-length
 same-length c = search needs
 
 returns-3 : tie.Need-returns-3
-returns-3 c = λ h i to x own heard n.
+returns-3 c = λ h to x own heard n.
     let w = c .before .before .before in
     let p = w .before .before .before .before in
     let j = p .before .before in
     rw (c .reply .ensures)
-    (replied-on h (arrival (given j) i to) _ _
-    (answers h (arrival (given j) i to) _ _ _ _ _ (well j h i to heard) _ n (j .judge .result) (judged-so j h i to own) (w .before .before .enum-told .given .1)
+    (replied-on h (arrival (given j) to) _ _
+    (answers h (arrival (given j) to) _ _ _ _ _ (well j h to heard) _ n (j .judge .result) (judged-so j h to own) (w .before .before .enum-told .given .1)
     (record { len = w .write .result; octets = _ }) (rw (← p .part .ensures) (w .write .ensures))))
 
 settle-requires : tie.Need-settle-requires
@@ -120,7 +120,7 @@ contest-left c Answer e = absurd (miss (0 ∷ 2 ∷ []) 1 tt (rw e at (c .match2
 contest-left c Contest e = refl
 
 returns-4 : tie.Need-returns-4
-returns-4 c = λ h i to x own heard n.
+returns-4 c = λ h to x own heard n.
     let e = c .before in
     let t = e .before .before .before .before in
     let z = t .before .before in
@@ -130,7 +130,7 @@ returns-4 c = λ h i to x own heard n.
     t .tell .ensures
     ∙ ap (λ (q : List ℕ). told (z .settle .result) (given j .args .heard .name) (given j .args .setting .family) (given j .args .id) q (now (given j .args .out))) (m .before .part .ensures) in
     rw (c .told .ensures)
-    (settled-on h (arrival (given j) i to) _ _ _ _ _ (well j h i to heard) _ n (j .judge .result) (judged-so j h i to own) (contest-left m _ refl) (z .settle .result)
+    (settled-on h (arrival (given j) to) _ _ _ _ _ (well j h to heard) _ n (j .judge .result) (judged-so j h to own) (contest-left m _ refl) (z .settle .result)
     (rw (x .setting) (z .settle .ensures)) _ (e .next .ensures) (t .tell .result) _ (rw (x .setting) y))
 
 pub answer-spec : {M : Type 1} → statement M
