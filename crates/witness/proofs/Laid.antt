@@ -1,7 +1,7 @@
 -- The records of a name among the entries, and the octets of a reply with them, in the terms of specs/Replies.antt.
 use Prim.Native.Nat.{ℕ, suc, zero, _+_, _<_}
 use mathlib.Core.Path.{_≡_, refl, sym, ap, _∙_}
-use mathlib.Core.List.{List, [], _∷_, _++_, map}
+use mathlib.Core.List.{List, [], _∷_, _++_, map, append-assoc}
 use mathlib.Core.Bool.{Bool, true, cond}
 use native.Mathlib.Omega.{arith}
 use lib.ListN.{length, getD}
@@ -10,7 +10,8 @@ use Rattle.octets.specs.Tests.{_or_}
 use Rattle.octets.specs.Octets.{put}
 use Rattle.octets.specs.Words.{bigAt, bigOctets}
 use Rattle.octets.proofs.Tests.{split}
-use Rattle.name_table.specs.Entries.{Data, a as a4, aaaa, ptr, Entry, resource, names, leading, owned, Answer, answerOf}
+use Rattle.names.specs.Names.{Labels}
+use Rattle.name_table.specs.Entries.{Data, a as a4, aaaa, ptr, Entry, resource, names, Owned, leading, owned, Answer, answerOf}
 use Rattle.message.specs.declared.ReplyHead.{ReplyHead}
 use Rattle.message.specs.Header.{headerOf}
 use Rattle.message.specs.Query.{countOctets}
@@ -18,41 +19,83 @@ use Rattle.message.specs.Reply.{Taken, replyFlags, replyOctets, answerOctets, a
 use Rattle.host.specs.State.{verifying, shared, is}
 use Rattle.host.specs.declared.NameState.{NameState}
 use Rattle.host.specs.declared.NameState.the-variants.{Off, Verifying, Unique, Defending, Stopped, Shared}
-use Rattle.witness.specs.Replies.{NoRecordFirst, Owns, typeOf, askedFor, recordOctets, recordsOctets, replyOf, isShared, isVerifying}
+use Rattle.witness.specs.Replies.{NameFirst, Group, groupEntries, masked, groupRecords, Owns, typeOf, askedFor, recordOctets, recordsOctets, replyOf, isShared, isVerifying}
 
 -- ---- the table
 
-leads : (es : List Entry) → (after : List Entry) × (es ≡ map resource (leading es) ++ after) × NoRecordFirst after
-leads [] = ([], refl, tt)
-leads (Entry.name kind n ∷ es) = (Entry.name kind n ∷ es, refl, tt)
-leads (resource d ∷ es) = let r = leads es in (r .0, ap (λ (x : List Entry). resource d ∷ x) (r .1), r .2)
+-- the records before any mask, the groups after it, and what follows
+record Parted (m : ℕ) (es : List Entry) : Type 0 where
+  first : List Data
+  groups : List Group
+  after : List Entry
+  entries : es ≡ map resource first ++ (groupEntries groups ++ after)
+  records : leading m es ≡ masked m first ++ groupRecords groups
+  until : NameFirst after
+
+parted : (m : ℕ) (es : List Entry) → Parted m es
+parted m [] = record { first = []; groups = []; after = []; entries = refl; records = refl; until = tt }
+parted m (Entry.name kind n ∷ es) =
+    record { first = []; groups = []; after = Entry.name kind n ∷ es; entries = refl; records = refl; until = tt }
+parted m (resource d ∷ es) =
+    let r = parted m es in
+    record {
+      first = d ∷ r .first;
+      groups = r .groups;
+      after = r .after;
+      entries = ap (λ (x : List Entry). resource d ∷ x) (r .entries);
+      records = ap (λ (x : List Owned). record { valid = m; rdata = d } ∷ x) (r .records);
+      until = r .until;
+    }
+parted m (Entry.mask l ∷ es) =
+    let r = parted l es in
+    record {
+      first = [];
+      groups = record { mask = l; records = r .first } ∷ r .groups;
+      after = r .after;
+      entries =
+          ap (λ (x : List Entry). Entry.mask l ∷ x)
+          (r .entries ∙ sym (append-assoc (map resource (r .first)) (groupEntries (r .groups)) (r .after)));
+      records = r .records;
+      until = r .until;
+    }
+
+-- with one entry more before
+before-it : {es : List Entry} {k j : ℕ} {n : Labels} {os : List Owned} (e : Entry) (r : Owns es k n os) → length (names (e ∷ r .before)) ≡ j
+    → Owns (e ∷ es) j n os
+before-it e r q =
+    record {
+      before = e ∷ r .before;
+      kind = r .kind;
+      first = r .first;
+      groups = r .groups;
+      after = r .after;
+      entries = ap (λ (x : List Entry). e ∷ x) (r .entries);
+      records-are = r .records-are;
+      number = q;
+      until = r .until;
+    }
 
 -- the k-th of the lists of records is that of the k-th name
 pub owns : (es : List Entry) (k : ℕ) → k < length (names es) → Owns es k (getD (names es) k []) (getD (owned es) k [])
 owns [] k h = absurd (omega arith)
 owns (Entry.name kind n ∷ es) zero h =
-    let r = leads es in
-    record { before = []; kind = kind; after = r .0; entries = ap (λ (x : List Entry). Entry.name kind n ∷ x) (r .1); number = refl; until = r .2 }
-owns (Entry.name kind n ∷ es) (suc k) h =
-    let r = owns es k (omega arith) in
+    let r = parted 15 es in
     record {
-      before = Entry.name kind n ∷ r .before;
-      kind = r .kind;
+      before = [];
+      kind = kind;
+      first = r .first;
+      groups = r .groups;
       after = r .after;
       entries = ap (λ (x : List Entry). Entry.name kind n ∷ x) (r .entries);
-      number = ap suc (r .number);
+      records-are = r .records;
+      number = refl;
       until = r .until;
     }
-owns (resource d ∷ es) k h =
-    let r = owns es k h in
-    record {
-      before = resource d ∷ r .before;
-      kind = r .kind;
-      after = r .after;
-      entries = ap (λ (x : List Entry). resource d ∷ x) (r .entries);
-      number = r .number;
-      until = r .until;
-    }
+owns (Entry.name kind n ∷ es) (suc k) h =
+    let r = owns es k (omega arith) in
+    before-it (Entry.name kind n) r (ap suc (r .number))
+owns (resource d ∷ es) k h = let r = owns es k h in before-it (resource d) r (r .number)
+owns (Entry.mask m ∷ es) k h = let r = owns es k h in before-it (Entry.mask m) r (r .number)
 
 -- ---- records as they are answered
 

@@ -15,11 +15,11 @@ use Rattle.octets.proofs.Splice.{put-in, splice-start, length-put, front}
 use Rattle.names.specs.Names.{Labels, encode, NameAt}
 use Rattle.names.specs.Folding.{foldedName}
 use Rattle.name_table.specs.Check.{Held, good, checkTable, nameIn, findName}
-use Rattle.name_table.specs.Entries.{Data, names, owned, located, Answer, answerOf, GoodTable}
+use Rattle.name_table.specs.Entries.{Data, names, Owned, owned, located, validFor, Answer, answerOf, GoodTable}
 use Rattle.name_table.specs.declared.Found.the-variants.{At}
 use Rattle.name_table.proofs.Meaning.{good-iff}
 use Rattle.name_table.proofs.Numbers.{finds}
-use Rattle.name_table.proofs.Records.{records-are}
+use Rattle.name_table.proofs.Records.{valid-are}
 use Rattle.message.specs.declared.ReplyHead.{ReplyHead}
 use Rattle.message.specs.declared.HeaderRead.the-variants.{Good as GoodHeader}
 use Rattle.message.specs.declared.QuestionRead.the-variants.{Good}
@@ -118,11 +118,18 @@ module _ (h : Host) (a : Arrival) (w : RepliesWhen h a) (o : Octets (a .datagram
           alone = λ j l e. number-is j (w .k) (sym (found j .1 (l, e)) ∙ found-here);
         }
 
-    abbrev records : List Data
-    records = getD (owned (t .entries)) (w .k) []
+    abbrev all-records : List Owned
+    all-records = getD (owned (t .entries)) (w .k) []
 
-    answers-are : answersIn (a .table) (nameIn (a .table) (w .k) .end) ≡ map answerOf records
-    answers-are = rw good-names (records-are (a .table) t (w .k) (found (w .k) .0 found-here .0))
+    -- on interface i
+    pub valid-there : (i : ℕ) → answersIn i (a .table) (nameIn (a .table) (w .k) .end) ≡ map answerOf (validFor i all-records)
+    valid-there i = rw good-names (valid-are (a .table) t (w .k) (found (w .k) .0 found-here .0) i)
+
+    abbrev records : List Data
+    records = validFor (a .interface) all-records
+
+    answers-are : answersIn (a .interface) (a .table) (nameIn (a .table) (w .k) .end) ≡ map answerOf records
+    answers-are = valid-there (a .interface)
 
     -- ---- the reply
 
@@ -234,7 +241,7 @@ module _ (h : Host) (a : Arrival) (w : RepliesWhen h a) (o : Octets (a .datagram
     records-read : Answered octets (w .q .end) (length octets) (partOf (a .datagram) 12 (12 + w .q .name)) (map answerOf given)
     records-read =
         let id : head .id < 65536 = omega (arith, id-is (a .datagram), big-word (a .datagram) 0 o) in
-        let fit : AreData (map answerOf records) = subst AreData answers-are (table-data (a .table) (nameIn (a .table) (w .k) .end) ot) in
+        let fit : AreData (map answerOf records) = subst AreData answers-are (table-data (a .interface) (a .table) (nameIn (a .table) (w .k) .end) ot) in
         let r = reads-answers 512 head asked (w .q .qtype) (map answerOf records) asked-short (omega arith) id (octets-part (a .datagram) 12 (w .q .end) o) fit (w .q .name) name-first in
         subst (λ (x : List Answer). Answered octets (w .q .end) (length octets) (partOf (a .datagram) 12 (12 + w .q .name)) x) (split-records .first)
         (subst (λ (x : List ℕ). Answered octets (w .q .end) (length octets) x (taken .answers)) (sym named)
@@ -274,5 +281,5 @@ reply-whole h a w o ot t =
       records = getD (owned (t .entries)) (w .k) [];
       owns = owns (t .entries) (w .k) (found h a w o ot t (w .k) .0 (found-here h a w o ot t) .0);
       asks = asks h a w o ot t;
-      whole = subst (λ (d : Done). WholeReply h a (w .q) (stateOf h (a .interface) (w .k)) (getD (owned (t .entries)) (w .k) []) d) (sym (done-is h a w o ot t)) (whole-reply h a w o ot t);
+      whole = subst (λ (d : Done). WholeReply h a (w .q) (stateOf h (a .interface) (w .k)) (validFor (a .interface) (getD (owned (t .entries)) (w .k) [])) d) (sym (done-is h a w o ot t)) (whole-reply h a w o ot t);
     }

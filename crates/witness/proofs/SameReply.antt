@@ -1,19 +1,20 @@
--- Two queries with the same ID and the same question get the same reply, whatever else they hold and wherever they arrived.
+-- Two queries with the same ID and the same question get the same reply, whatever else they hold, and wherever they arrived if the same
+-- records of the name are valid there.
 use Prim.Native.Nat.{ℕ, _+_, _-_, _*_, _/_, _<_, _≤_}
 use mathlib.Core.Path.{_≡_, refl, sym, ap, _∙_, subst}
 use mathlib.Core.Logic.{⊎-map}
-use mathlib.Core.List.{List, [], _∷_, _++_}
+use mathlib.Core.List.{List, [], _∷_, _++_, map}
 use mathlib.Core.Bool.{Bool}
 use native.Mathlib.Omega.{arith}
-use lib.ListN.{length, take, drop, take-append-drop}
+use lib.ListN.{length, getD, take, drop, take-append-drop}
 use lib.Seq.{take-at, take-take, length-take-le}
 use lib.Dec.{eqb}
 use Rattle.octets.specs.Octets.{Octets, octetAt, partOf}
 use Rattle.octets.specs.Words.{bigOctets}
 use Rattle.octets.proofs.Octets.{part-in, part-past, octet-at}
-use Rattle.names.specs.Names.{encode}
-use Rattle.name_table.specs.Check.{Held, good, checkTable, nameIn, findName}
-use Rattle.name_table.specs.declared.Found.the-variants.{At}
+use Rattle.names.specs.Names.{Labels, encode}
+use Rattle.name_table.specs.Check.{nameIn, findName}
+use Rattle.name_table.specs.Entries.{Owned, owned, validFor, Answer, answerOf, GoodTable}
 use Rattle.message.specs.declared.Question.{Question}
 use Rattle.message.specs.declared.QuestionRead.the-variants.{Good}
 use Rattle.message.specs.Header.{bits, headerOf}
@@ -21,15 +22,17 @@ use Rattle.message.specs.Question.{questionAt}
 use Rattle.message.specs.Reply.{replyWritten, answersIn}
 use Rattle.message.proofs.Questions.{question-moves}
 use Rattle.octets.specs.declared.Endpoint.{Endpoint}
-use Rattle.host.specs.State.{settingOf, stateOf, verifying, shared, is, withClock}
+use Rattle.host.specs.State.{stateOf, verifying, shared, is, withClock}
 use Rattle.host.specs.Outcomes.{Done, reply}
 use Rattle.host.specs.Receive.{Arrival, answered, receive}
 use Rattle.host.specs.ExactlyWhen.{RepliesWhen}
 use Rattle.host.specs.declared.NameState.{NameState}
 use Rattle.host.specs.declared.Host.{Host}
 use Rattle.host.proofs.Received.{replies}
+use Rattle.witness.specs.Replies.{Owns}
 use Rattle.witness.specs.SameReply.{SameAsked, AlikeStates, SameQuery, withDatagram, AlikeInterface, onInterface}
-use Rattle.witness.proofs.Replies.{is-question, labels, named, asked-end, asked-octets, same-question}
+use Rattle.witness.proofs.Replies.{is-question, labels, named, asked-end, asked-octets, same-question, valid-there}
+use Rattle.witness.proofs.OnlyItsOwn.{records-of}
 use Rattle.witness.proofs.Laid.{id-is, shared-is, verifying-is}
 use Rattle.octets.proofs.Tests.{split}
 use lib.Dec.{ltb}
@@ -37,14 +40,14 @@ use borrow.Author.Tests.{ltb-true, ltb-false}
 
 -- ---- what a reply depends on
 
-abbrev replyBy : Host → ℕ → Endpoint → List ℕ → List ℕ → ℕ → Bool → Bool → List ℕ → ℕ → ℕ → Done
-replyBy h time from out table id c t question qtype k =
-    let w = replyWritten out 512 (record { id = id; conflict = c; tentative = t }) question qtype (answersIn table (nameIn table k .end)) in
+abbrev replyBy : Host → ℕ → Endpoint → List ℕ → List Answer → ℕ → Bool → Bool → List ℕ → ℕ → Done
+replyBy h time from out answers id c t question qtype =
+    let w = replyWritten out 512 (record { id = id; conflict = c; tentative = t }) question qtype answers in
     record { host = withClock h time; result = reply (w .len); to = from; octets = w .octets }
 
 by-parts : (h : Host) (a : Arrival) (q : Question) (k : ℕ) → answered h a q k
-    ≡ replyBy h (a .time) (a .from) (a .out) (a .table) (headerOf (a .datagram) .id) (is shared (stateOf h (a .interface) k))
-    (is verifying (stateOf h (a .interface) k)) (partOf (a .datagram) 12 (q .end)) (q .qtype) k
+    ≡ replyBy h (a .time) (a .from) (a .out) (answersIn (a .interface) (a .table) (nameIn (a .table) k .end)) (headerOf (a .datagram) .id)
+    (is shared (stateOf h (a .interface) k)) (is verifying (stateOf h (a .interface) k)) (partOf (a .datagram) 12 (q .end)) (q .qtype)
 by-parts h a q k = refl
 
 -- ---- the name in a question's octets
@@ -73,45 +76,30 @@ module _ (h : Host) (a b : Arrival) (v : RepliesWhen h a) (w : RepliesWhen h b) 
       let e : Good (v .q) ≡ Good (w .q) = sym (question-of h a v oa) ∙ ap (λ (x : List ℕ). questionAt (twelve ++ (x ++ [])) 12) (s .question) ∙ question-of h b w ob in
       cc
 
-  same-names : v .names ≡ w .names
-  same-names =
-      let e : good (v .names) ≡ good (w .names) =
-      sym (v .query .arrives .called .good-table) ∙ ap checkTable (s .table) ∙ w .query .arrives .called .good-table in
-      cc
-
-  same-k : v .k ≡ w .k
-  same-k =
-      let n : partOf (a .datagram) 12 (12 + v .q .name) ≡ partOf (b .datagram) 12 (12 + w .q .name) =
-      name-of h a v oa
-      ∙ ap (take (v .q .name)) (s .question)
-      ∙ ap (λ (q : Question). take (q .name) (partOf (b .datagram) 12 (w .q .end))) same-q
-      ∙ sym (name-of h b w ob) in
-      let e : At (v .k) ≡ At (w .k) =
-      sym (v .name) ∙ ap (findName (v .names)) n ∙ ap (λ (x : List Held). findName x (partOf (b .datagram) 12 (12 + w .q .name))) same-names ∙ w .name in
-      cc
-
   same-id : headerOf (a .datagram) .id ≡ headerOf (b .datagram) .id
   same-id = id-is (a .datagram) ∙ omega (arith, s .id 0 (omega arith), s .id 1 (omega arith)) ∙ sym (id-is (b .datagram))
 
   -- Two queries that both get a reply and ask the same get the same: the same octets, the same destination. The interfaces count only
-  -- in so far as the name's states there are Shared or Verifying.
-  pub same-reply : AlikeStates (stateOf h (a .interface) (v .k)) (stateOf h (b .interface) (w .k)) → receive h a ≡ receive h b
-  same-reply l =
+  -- in so far as the name's states there are Shared or Verifying, and by which of its records are valid there.
+  pub same-reply : AlikeStates (stateOf h (a .interface) (v .k)) (stateOf h (b .interface) (w .k))
+      → answersIn (a .interface) (a .table) (nameIn (a .table) (v .k) .end) ≡ answersIn (b .interface) (b .table) (nameIn (b .table) (w .k) .end)
+      → receive h a ≡ receive h b
+  same-reply l n =
       let x : NameState = stateOf h (a .interface) (v .k) in
       let y : NameState = stateOf h (b .interface) (w .k) in
       let c : is shared x ≡ is shared y = shared-is x ∙ l .shared ∙ sym (shared-is y) in
       let t : is verifying x ≡ is verifying y = verifying-is x ∙ l .verifying ∙ sym (verifying-is y) in
       replies h a v
       ∙ by-parts h a (v .q) (v .k)
-      ∙ parts-same _ _ _ _ _ _ _ _ _ _ (s .time) (s .from) (s .out) (s .table) same-id c t (s .question) (ap (λ (q : Question). q .qtype) same-q) same-k
+      ∙ parts-same _ _ _ _ _ _ _ _ _ (s .time) (s .from) (s .out) n same-id c t (s .question) (ap (λ (q : Question). q .qtype) same-q)
       ∙ sym (by-parts h b (w .q) (w .k))
       ∙ sym (replies h b w)
     where
-      parts-same : (time : ℕ) (from : Endpoint) (out table : List ℕ) (id : ℕ) (c t : Bool) (question : List ℕ) (qtype k : ℕ)
-          {time₂ : ℕ} {from₂ : Endpoint} {out₂ table₂ : List ℕ} {id₂ : ℕ} {c₂ t₂ : Bool} {question₂ : List ℕ} {qtype₂ k₂ : ℕ}
-          → time ≡ time₂ → from ≡ from₂ → out ≡ out₂ → table ≡ table₂ → id ≡ id₂ → c ≡ c₂ → t ≡ t₂ → question ≡ question₂ → qtype ≡ qtype₂ → k ≡ k₂
-          → replyBy h time from out table id c t question qtype k ≡ replyBy h time₂ from₂ out₂ table₂ id₂ c₂ t₂ question₂ qtype₂ k₂
-      parts-same time from out table id c t question qtype k e0 e1 e2 e3 e4 e5 e6 e7 e8 e9 = rw (e0, e1, e2, e3, e4, e5, e6, e7, e8, e9)
+      parts-same : (time : ℕ) (from : Endpoint) (out : List ℕ) (answers : List Answer) (id : ℕ) (c t : Bool) (question : List ℕ) (qtype : ℕ)
+          {time₂ : ℕ} {from₂ : Endpoint} {out₂ : List ℕ} {answers₂ : List Answer} {id₂ : ℕ} {c₂ t₂ : Bool} {question₂ : List ℕ} {qtype₂ : ℕ}
+          → time ≡ time₂ → from ≡ from₂ → out ≡ out₂ → answers ≡ answers₂ → id ≡ id₂ → c ≡ c₂ → t ≡ t₂ → question ≡ question₂ → qtype ≡ qtype₂
+          → replyBy h time from out answers id c t question qtype ≡ replyBy h time₂ from₂ out₂ answers₂ id₂ c₂ t₂ question₂ qtype₂
+      parts-same time from out answers id c t question qtype e0 e1 e2 e3 e4 e5 e6 e7 e8 = rw (e0, e1, e2, e3, e4, e5, e6, e7, e8)
 
 -- ---- a datagram that holds the same query
 
@@ -216,12 +204,13 @@ module _ (h : Host) (a : Arrival) (v : RepliesWhen h a) (o : Octets (a .datagram
   unfolding replies-too
   no-difference =
       sym (same-reply h a (withDatagram a e) v replies-too o p
-      (record { table = refl; from = refl; time = refl; out = refl; id = s .id; question = s .question })
-      (record { shared = refl; verifying = refl }))
+      (record { from = refl; time = refl; out = refl; id = s .id; question = s .question })
+      (record { shared = refl; verifying = refl }) refl)
 
 -- ---- another interface
 
-module _ (h : Host) (a : Arrival) (v : RepliesWhen h a) (o : Octets (a .datagram)) (j : ℕ) (s : AlikeInterface h (a .interface) j (v .k)) where
+module _ (h : Host) (a : Arrival) (v : RepliesWhen h a) (o : Octets (a .datagram)) (ot : Octets (a .table)) (t : GoodTable (a .table))
+    (n : Labels) (records : List Owned) (owns : Owns (t .entries) (v .k) n records) (j : ℕ) (s : AlikeInterface h (a .interface) j (v .k) records) where
   -- The same query on an interface where the name's state is alike gets a reply too,
   pub replies-there : RepliesWhen h (onInterface a j)
   replies-there =
@@ -264,10 +253,16 @@ module _ (h : Host) (a : Arrival) (v : RepliesWhen h a) (o : Octets (a .datagram
         not-stopped = s .not-stopped;
       }
 
-  -- and the same one.
+  same-valid : validFor (a .interface) (getD (owned (t .entries)) (v .k) []) ≡ validFor j (getD (owned (t .entries)) (v .k) [])
+  same-valid =
+      let e = records-of (t .entries) (v .k) n records owns in
+      ap (validFor (a .interface)) e ∙ s .valid ∙ ap (validFor j) (sym e)
+
+  -- and the same one, if the same of its records are valid there.
   pub on-any-interface : receive h (onInterface a j) ≡ receive h a
   unfolding replies-there
   on-any-interface =
       sym (same-reply h a (onInterface a j) v replies-there o o
-      (record { table = refl; from = refl; time = refl; out = refl; id = λ i l. refl; question = refl })
-      (s .alike))
+      (record { from = refl; time = refl; out = refl; id = λ i l. refl; question = refl })
+      (s .alike)
+      (valid-there h a v o ot t (a .interface) ∙ ap (map answerOf) same-valid ∙ sym (valid-there h a v o ot t j)))

@@ -13,7 +13,7 @@ use Rattle.refusal.specs.Checks.{Clear}
 use Rattle.names.specs.Folding.{sameName}
 use Rattle.name_table.specs.declared.Found.the-variants.{At}
 use Rattle.name_table.specs.Check.{Held, checkTable, namesIn, findFrom, isFound, numberOr}
-use Rattle.name_table.specs.Entries.{Data, GoodTable}
+use Rattle.name_table.specs.Entries.{GoodTable, Owned, validFor}
 use Rattle.name_table.proofs.Held.{few-held}
 use Rattle.name_table.proofs.Meaning.{good-iff}
 use Rattle.message.specs.declared.Question.{Question}
@@ -196,8 +196,8 @@ module _ (h : Host) (a : Arrival) where
 from-one : (h : Host) (a : Arrival) (q : Question) (k : ℕ) (t : GoodTable (a .table)) (d e : Done)
     → ReplyFrom h a q k (t .entries) d → ReplyFrom h a q k (t .entries) e → d ≡ e
 from-one h a q k t d e v w =
-    one-reply h a q (stateOf h (a .interface) k) (v .records) d e (v .whole)
-    (subst (λ (rs : List Data). WholeReply h a q (stateOf h (a .interface) k) rs e)
+    one-reply h a q (stateOf h (a .interface) k) (validFor (a .interface) (v .records)) d e (v .whole)
+    (subst (λ (rs : List Owned). WholeReply h a q (stateOf h (a .interface) k) (validFor (a .interface) rs) e)
     (owns-one (t .entries) k (w .name) (v .name) (w .records) (v .records) (w .owns) (v .owns)) (w .whole))
 
 -- the source is below our address, or not

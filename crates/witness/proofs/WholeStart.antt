@@ -81,6 +81,7 @@ kind-at o (Entry.name uniqueKind n ∷ es) zero l = inl refl
 kind-at o (Entry.name sharedKind n ∷ es) zero l = inr refl
 kind-at o (Entry.name j n ∷ es) (suc k) l = kind-at (o + (4 + length (encode n))) es k (omega arith)
 kind-at o (resource d ∷ es) k l = kind-at (o + (4 + length (dataOctets d))) es k l
+kind-at o (Entry.mask m ∷ es) k l = kind-at (o + 5) es k l
 
 -- a name of a good table is of kind 1 or 2
 kind-of : (table : List ℕ) (names : List Held) (k : ℕ) → Octets table → checkTable table ≡ good names → k < length names

@@ -12,7 +12,8 @@ use Rattle.octets.specs.Octets.{partOf}
 use Rattle.octets.specs.Words.{bigAt}
 use Rattle.names.specs.Names.{Labels, IsName, encode}
 use Rattle.names.specs.Folding.{foldedName}
-use Rattle.name_table.specs.Entries.{NameKind, Data, a as a4, aaaa, ptr, Entry, resource, names, dataOctets, answerOf}
+use Rattle.name_table.specs.Masks.{Valid}
+use Rattle.name_table.specs.Entries.{NameKind, Data, a as a4, aaaa, ptr, Entry, resource, names, dataOctets, Owned, IsNumber, validFor, answerOf}
 use Rattle.message.specs.declared.Question.{Question}
 use Rattle.message.specs.declared.HeaderRead.the-variants.{Good as GoodHeader}
 use Rattle.message.specs.declared.QuestionRead.the-variants.{Good}
@@ -29,19 +30,48 @@ use Rattle.host.specs.declared.Host.{Host}
 -- ---- the table
 
 -- there is no entry, or the first is a name
-abbrev pub NoRecordFirst : List Entry → Type 0
-NoRecordFirst [] = Unit
-NoRecordFirst (Entry.name kind n ∷ es) = Unit
-NoRecordFirst (resource d ∷ es) = ⊥
+abbrev pub NameFirst : List Entry → Type 0
+NameFirst [] = Unit
+NameFirst (Entry.name kind n ∷ es) = Unit
+NameFirst (resource d ∷ es) = ⊥
+NameFirst (Entry.mask m ∷ es) = ⊥
 
--- The k-th name of some entries is n. These records stand right after its entry, and after them the next name or nothing.
-pub record Owns (es : List Entry) (k : ℕ) (n : Labels) (records : List Data) : Type 0 where
+-- a kind 6 and the records after it, which are valid on the interfaces of its mask
+pub record Group : Type 0 where
+  pub mask : ℕ
+  pub records : List Data
+
+abbrev pub groupEntries : List Group → List Entry
+groupEntries [] = []
+groupEntries (g ∷ gs) = Entry.mask (g .mask) ∷ (map resource (g .records) ++ groupEntries gs)
+
+-- records with one mask
+abbrev pub masked : ℕ → List Data → List Owned
+masked m [] = []
+masked m (d ∷ ds) = record { valid = m; rdata = d } ∷ masked m ds
+
+abbrev pub groupRecords : List Group → List Owned
+groupRecords [] = []
+groupRecords (g ∷ gs) = masked (g .mask) (g .records) ++ groupRecords gs
+
+-- The k-th name of some entries is n. Right after its entry stand its first records, which are valid on every interface: mask 15. Then come
+-- those after each kind 6, with its mask, and then the next name or nothing.
+pub record Owns (es : List Entry) (k : ℕ) (n : Labels) (records : List Owned) : Type 0 where
   pub before : List Entry
   pub kind : NameKind
+  pub first : List Data
+  pub groups : List Group
   pub after : List Entry
-  pub entries : es ≡ before ++ (Entry.name kind n ∷ (map resource records ++ after))
+  pub entries : es ≡ before ++ (Entry.name kind n ∷ (map resource first ++ (groupEntries groups ++ after)))
+  pub records-are : records ≡ masked 15 first ++ groupRecords groups
   pub number : length (names before) ≡ k
-  pub until : NoRecordFirst after
+  pub until : NameFirst after
+
+-- each of some records is one of a name's records, with a mask that has the bit of interface i
+abbrev pub AllValid : ℕ → List Owned → List Data → Type 0
+AllValid i records [] = Unit
+AllValid i records (d ∷ ds) =
+    ((m : ℕ) × (j : ℕ) × IsNumber records j (record { valid = m; rdata = d }) × Valid m i) × AllValid i records ds
 
 -- A is type 1, AAAA 28, PTR 12
 abbrev pub typeOf : Data → ℕ
@@ -99,7 +129,7 @@ pub record DoesNotFit (len : ℕ) (left : List Data) : Type 0 where
   pub are : left ≡ first ∷ more
   pub passes : 512 < len + 12 + length (dataOctets first)
 
--- The reply to the question q about a name that is in this state here and has these records.
+-- The reply to the question q about a name that is in this state here and has these records that are valid here.
 pub record WholeReply (h : Host) (a : Arrival) (q : Question) (state : NameState) (records : List Data) (d : Done) : Type 0 where
   -- of the records that are asked for the first are given
   pub given : List Data
@@ -150,10 +180,10 @@ pub record AsksTheName (a : Arrival) (q : Question) (es : List Entry) (k : ℕ) 
   pub equal : foldedName name ≡ foldedName labels
   pub alone : (j : ℕ) → j < length (names es) → foldedName (getD (names es) j []) ≡ foldedName labels → j ≡ k
 
--- The reply from a table: with the records of the name that is asked for, and of no other.
+-- The reply from a table: with the records of the name that is asked for, and of no other, that are valid on the interface asked.
 pub record ReplyFrom (h : Host) (a : Arrival) (q : Question) (k : ℕ) (es : List Entry) (d : Done) : Type 0 where
   pub name : Labels
-  pub records : List Data
+  pub records : List Owned
   pub owns : Owns es k name records
   pub asks : AsksTheName a q es k name
-  pub whole : WholeReply h a q (stateOf h (a .interface) k) records d
+  pub whole : WholeReply h a q (stateOf h (a .interface) k) (validFor (a .interface) records) d

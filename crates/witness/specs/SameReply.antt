@@ -1,5 +1,6 @@
 -- What makes no difference to a reply: T, TC, RCODE and the reserved bits of the query, its ARCOUNT, the octets after its question, and
--- which interface asked. The proofs are in proofs/SameReply.antt. And a table of two names, for proofs/OnlyItsOwn.antt.
+-- which interface asked, if the same records of the name are valid there. The proofs are in proofs/SameReply.antt. And a table of two names,
+-- for proofs/OnlyItsOwn.antt.
 use Prim.Native.Nat.{ℕ, _/_, _<_, _≤_}
 use mathlib.Core.Path.{_≡_}
 use mathlib.Core.Logic.{_≢_}
@@ -7,19 +8,18 @@ use mathlib.Core.List.{List, _∷_, _++_, map}
 use lib.ListN.{length}
 use Rattle.octets.specs.Octets.{octetAt, partOf}
 use Rattle.names.specs.Names.{Labels}
-use Rattle.name_table.specs.Entries.{NameKind, Data, Entry, resource}
+use Rattle.name_table.specs.Entries.{NameKind, Data, Entry, resource, Owned, validFor}
 use Rattle.message.specs.declared.Question.{Question}
 use Rattle.host.specs.Receive.{Arrival}
 use Rattle.host.specs.State.{settingOf, stateOf, HasStopped}
 use Rattle.host.specs.declared.Host.{Host}
 use Rattle.host.specs.declared.NameState.{NameState}
 use Rattle.host.specs.declared.NameState.the-variants.{Off}
-use Rattle.witness.specs.Replies.{isShared, isVerifying}
+use Rattle.witness.specs.Replies.{Group, groupEntries, isShared, isVerifying}
 
--- Two calls have the same table, source, time and buffer, and their datagrams the same ID and the same octets of the question. All else
--- may differ: the interface, the flags, the octets after the question.
+-- Two calls have the same source, time and buffer, and their datagrams the same ID and the same octets of the question. All else may
+-- differ: the table, the interface, the flags, the octets after the question.
 pub record SameAsked (a b : Arrival) (qa qb : Question) : Type 0 where
-  pub table : a .table ≡ b .table
   pub from : a .from ≡ b .from
   pub time : a .time ≡ b .time
   pub out : a .out ≡ b .out
@@ -70,14 +70,16 @@ onInterface a j =
     }
 
 -- The interface j is one of the four, of the same family as the one where the query arrived, and the name's state there is alike and
--- neither Off nor Stopped.
-pub record AlikeInterface (h : Host) (i j k : ℕ) : Type 0 where
+-- neither Off nor Stopped. Of the name's records the same are valid there.
+pub record AlikeInterface (h : Host) (i j k : ℕ) (records : List Owned) : Type 0 where
   pub inside : j < 4
   pub family : settingOf h j .family ≡ settingOf h i .family
   pub alike : AlikeStates (stateOf h i k) (stateOf h j k)
   pub not-off : stateOf h j k ≢ Off
   pub not-stopped : HasStopped (stateOf h j k) → ⊥
+  pub valid : validFor i records ≡ validFor j records
 
 -- a name with its records, and another after it with its own
-abbrev pub twoNames : NameKind → Labels → List Data → NameKind → Labels → List Data → List Entry
-twoNames k n rs l m ss = Entry.name k n ∷ (map resource rs ++ (Entry.name l m ∷ map resource ss))
+abbrev pub twoNames : NameKind → Labels → List Data → List Group → NameKind → Labels → List Data → List Group → List Entry
+twoNames k n rs gs l m ss hs =
+    Entry.name k n ∷ (map resource rs ++ (groupEntries gs ++ (Entry.name l m ∷ (map resource ss ++ groupEntries hs))))
