@@ -8,7 +8,8 @@ use Rattle.names.specs.RecordNameWalk.{turnAt, recordNameFrom}
 use Rattle.names.specs.Folding.{folded, sameName}
 use Rattle.name_table.specs.Kinds.{kindOf}
 use Rattle.name_table.specs.Check.{isWhole, nameFills, nameForm, recordForm, formBy, formAt, findFrom, step, from, checkTable}
-use Rattle.name_table.specs.Records.{recordBy, recordAt, recordsFrom}
+use Rattle.name_table.specs.Records.{recordBy, recordAt, recordsFrom, validOn}
+use Rattle.name_table.specs.Masks.{isValid}
 use Rattle.message.specs.Header.{headerOf}
 use Rattle.message.specs.Question.{questionAt}
 use Rattle.message.specs.Query.{queryOctets}
@@ -21,7 +22,7 @@ use Rattle.lookup.specs.Tick.{tick}
 use Rattle.examples.specs.Exchange.{Exchange}
 
 pub exchange : Exchange
-unfolding partOf splice put sameOctets sameAddress groupOf isGroup groupEndpoint hasAddress oursAmong verdict nameFrom turnAt recordNameFrom folded sameName kindOf isWhole nameFills nameForm recordForm formBy formAt findFrom step from checkTable recordBy recordAt recordsFrom headerOf questionAt queryOctets answerAt walkFrom takenFrom replyOctets replyWritten hostReceive start receive tick
+unfolding partOf splice put sameOctets sameAddress groupOf isGroup groupEndpoint hasAddress oursAmong verdict nameFrom turnAt recordNameFrom folded sameName kindOf isWhole nameFills nameForm recordForm formBy formAt findFrom step from checkTable recordBy recordAt recordsFrom isValid validOn headerOf questionAt queryOctets answerAt walkFrom takenFrom replyOctets replyWritten hostReceive start receive tick
 exchange =
     record {
       asks = refl;

@@ -10,7 +10,7 @@ use Rattle.octets.specs.Octets.{partOf}
 use Rattle.octets.specs.Words.{bigAt, bigOctets}
 use Rattle.names.specs.Names.{encode}
 use Rattle.names.specs.Folding.{folded}
-use Rattle.name_table.specs.Entries.{Answer, answerOf}
+use Rattle.name_table.specs.Entries.{Answer, answerOf, validFor}
 use Rattle.message.specs.declared.Header.{Header}
 use Rattle.message.specs.declared.Question.{Question}
 use Rattle.message.specs.declared.ResourceRecord.{ResourceRecord}
@@ -88,7 +88,7 @@ module _ (l : Lookup) (h : Host) (a : HostArrival) (w : Asked l h a) where
   abbrev from-host : HostDone
   from-host = hostReceive h a
 
-  abbrev whole : WholeReply h a q (stateOf h (a .interface) (w .replies .k)) (reply-whole h a (w .replies) (w .octets) (w .table-octets) (w .table) .records) from-host
+  abbrev whole : WholeReply h a q (stateOf h (a .interface) (w .replies .k)) (validFor (a .interface) (reply-whole h a (w .replies) (w .octets) (w .table-octets) (w .table) .records)) from-host
   whole = reply-whole h a (w .replies) (w .octets) (w .table-octets) (w .table) .whole
 
   module _ (own : Owned (stateOf h (a .interface) (w .replies .k))) (b : Arrival) (len : ℕ) (e : from-host .result ≡ reply len) (g : Gets l b (take len (from-host .octets))) where

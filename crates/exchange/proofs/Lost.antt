@@ -5,7 +5,7 @@ use mathlib.Core.Logic.{_≢_}
 use mathlib.Core.List.{List, [], _∷_, map}
 use native.Mathlib.Omega.{arith}
 use lib.ListN.{length, take}
-use Rattle.name_table.specs.Entries.{Data, answerOf}
+use Rattle.name_table.specs.Entries.{Data, answerOf, validFor}
 use Rattle.message.specs.declared.Question.{Question}
 use Rattle.message.specs.declared.Header.{Header}
 use Rattle.message.specs.declared.ResourceRecord.{ResourceRecord}
@@ -43,7 +43,7 @@ module _ (h : Host) (a : Arrival) (g : Host) (b : Arrival) (k : ℕ) (w : LosesT
   abbrev told : Tells h a
   told = w .tells
 
-  abbrev whole : WholeReply h a (told .replies .q) (stateOf h (a .interface) (told .replies .k)) (reply-whole h a (told .replies) (told .octets) (told .table-octets) (told .table) .records) (receive h a)
+  abbrev whole : WholeReply h a (told .replies .q) (stateOf h (a .interface) (told .replies .k)) (validFor (a .interface) (reply-whole h a (told .replies) (told .octets) (told .table-octets) (told .table) .records)) (receive h a)
   whole = reply-whole h a (told .replies) (told .octets) (told .table-octets) (told .table) .whole
 
   -- the reply is what arrives

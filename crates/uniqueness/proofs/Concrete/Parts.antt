@@ -22,7 +22,8 @@ use Rattle.names.specs.Folding.{folded, foldedName, sameName}
 use Rattle.names.specs.Names.{IsName, encode}
 use Rattle.name_table.specs.Kinds.{kindOf}
 use Rattle.name_table.specs.Check.{Held, good, noName, isWhole, nameFills, nameForm, recordForm, formBy, formAt, findFrom, step, from, checkTable}
-use Rattle.name_table.specs.Records.{recordBy, recordAt, recordsFrom}
+use Rattle.name_table.specs.Records.{recordBy, recordAt, recordsFrom, validOn}
+use Rattle.name_table.specs.Masks.{isValid}
 use Rattle.name_table.proofs.Meaning.{good-iff}
 use Rattle.message.specs.Header.{headerOf}
 use Rattle.message.specs.Question.{questionAt}
@@ -50,7 +51,7 @@ are-octets (c ∷ s) e = let b = both (ltb c 256) (areOctets s) .0 e in (ltb-tru
 
 -- all that a played link computes with: to unfold this is to unfold them
 unfoldable pub computing : Unit {0}
-unfolding partOf splice put sameOctets belowOctets sameAddress belowAddress groupOf isGroup groupEndpoint hasAddress oursAmong verdict nameFrom folded sameName kindOf isWhole nameFills nameForm recordForm formBy formAt findFrom step from checkTable recordBy recordAt recordsFrom headerOf questionAt queryOctets takenFrom replyOctets replyWritten badAmong setUp start dueFrom tick receive those latest isAmong deliver undelivered play plays inTime keepsRules allKeep areOctets
+unfolding partOf splice put sameOctets belowOctets sameAddress belowAddress groupOf isGroup groupEndpoint hasAddress oursAmong verdict nameFrom folded sameName kindOf isWhole nameFills nameForm recordForm formBy formAt findFrom step from checkTable recordBy recordAt recordsFrom isValid validOn headerOf questionAt queryOctets takenFrom replyOctets replyWritten badAmong setUp start dueFrom tick receive those latest isAmong deliver undelivered play plays inTime keepsRules allKeep areOctets
 computing = tt
 
 -- 1. CALLS AND PROBES
