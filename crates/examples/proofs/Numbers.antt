@@ -29,4 +29,4 @@ numbers-of-addresses = (refl, refl, refl, refl, refl, refl, refl, refl)
 
 pub numbers-of-tables : OfTables
 unfolding kindOf
-numbers-of-tables = (refl, refl, refl, refl, refl, refl, refl, refl, refl, refl, refl)
+numbers-of-tables = (refl, refl, refl, refl, refl, refl, refl, refl, refl, refl, refl, refl, refl)

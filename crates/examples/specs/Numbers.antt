@@ -10,9 +10,9 @@ use Rattle.octets.specs.Words.{bigAt, littleAt, bigOctets, littleOctets}
 use Rattle.octets.specs.Addresses.{groupOf}
 use Rattle.names.specs.Bounds.{longestLabel, longestName, mostLabels, mostPointers, leastTarget, pointerMark}
 use Rattle.names.specs.Folding.{folded}
-use Rattle.name_table.specs.Bounds.{longestTable, mostNames, mostRecords, entryHead}
+use Rattle.name_table.specs.Bounds.{longestTable, mostNames, mostRecords, everywhere, entryHead}
 use Rattle.name_table.specs.Kinds.{kindOf}
-use Rattle.name_table.specs.declared.Kind.the-variants.{Unique, Shared, Octets, Target, Unknown}
+use Rattle.name_table.specs.declared.Kind.the-variants.{Unique, Shared, Octets, Target, Mask, Unknown}
 use Rattle.message.specs.Bounds.{headerOctets, fixedOctets, ownerOctets, classIN, typeANY, replyTTL, topBit}
 use Rattle.message.specs.declared.Header.{Header}
 use Rattle.message.specs.Header.{headerOf}
@@ -61,8 +61,9 @@ OfAddresses =
     × (llmnrPort ≡ 5355) × (interfaces ≡ 4)
 
 -- at most 4,096 octets, 8 names, 24 records to a name; 4 octets before a body. Kinds: 1 unique name, 2 shared name, 3 A (4 octets),
--- 4 AAAA (16), 5 PTR (a name); types 1, 28 and 12
+-- 4 AAAA (16), 5 PTR (a name); types 1, 28 and 12. Of document 02, [1]: kind 6, a mask of which bits 0 to 3 may be set
 abbrev pub OfTables : Type 0
 OfTables =
     (longestTable ≡ 4096) × (mostNames ≡ 8) × (mostRecords ≡ 24) × (entryHead ≡ 4) × (kindOf 0 ≡ Unknown) × (kindOf 1 ≡ Unique)
-    × (kindOf 2 ≡ Shared) × (kindOf 3 ≡ Octets 1 4) × (kindOf 4 ≡ Octets 28 16) × (kindOf 5 ≡ Target 12) × (kindOf 6 ≡ Unknown)
+    × (kindOf 2 ≡ Shared) × (kindOf 3 ≡ Octets 1 4) × (kindOf 4 ≡ Octets 28 16) × (kindOf 5 ≡ Target 12) × (kindOf 6 ≡ Mask) × (kindOf 7 ≡ Unknown)
+    × (everywhere ≡ 1 + 2 + 4 + 8)
