@@ -111,7 +111,20 @@ pub extern "C" fn llmnr_receive(
     }
     let n = flat::name_at(held, h.name);
     let all = settings.interfaces;
-    let step = heard::answer(h, n, all, s, clock, table, from, datagram, time, id, out);
+    let step = heard::answer(
+        h,
+        n,
+        all,
+        s,
+        clock,
+        table,
+        interface,
+        from,
+        datagram,
+        time,
+        id,
+        out,
+    );
     flat::step(step)
 }
 

@@ -5,6 +5,7 @@ use libc::STDOUT_FILENO;
 use name_table::Kind;
 use name_table::NameFound;
 use name_table::Table;
+use name_table::resources;
 
 fn text(octets: &[u8]) {
     io::write_all(STDOUT_FILENO, octets);
@@ -35,7 +36,7 @@ fn print_name(octets: &[u8], table: Table, k: usize) {
     let len = octets::part(octets, start, end).len();
     number(len);
     text(b" ");
-    number(name_table::count_records(octets, end));
+    number(resources::count_records(octets, end));
     text(b"\n");
 }
 

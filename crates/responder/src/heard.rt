@@ -160,7 +160,16 @@ pub fn answer(
     }
     let asked = octets::part(datagram, Header::OCTETS, q.end);
     if let Judged::Answer = judged {
-        let len = reply::write(out, h.id, name, asked, q.qtype, interface, table, heard.records);
+        let len = reply::write(
+            out,
+            h.id,
+            name,
+            asked,
+            q.qtype,
+            interface,
+            table,
+            heard.records,
+        );
         return served::reply(time, len, from);
     }
     let ended = contest::settle(name, h, source, setting);

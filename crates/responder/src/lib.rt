@@ -155,7 +155,20 @@ pub fn receive(
     let n = name_at(names, h.name);
     let interfaces = host.interfaces;
     let all = Interface::settings(interfaces);
-    let a = heard::answer(h, n, all, s, clock, table, interface, from, datagram, time, id, out);
+    let a = heard::answer(
+        h,
+        n,
+        all,
+        s,
+        clock,
+        table,
+        interface,
+        from,
+        datagram,
+        time,
+        id,
+        out,
+    );
     after(host, at, a)
 }
 

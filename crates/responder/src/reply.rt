@@ -29,5 +29,14 @@ pub(crate) fn write(
         tentative: crate::contest::is_verifying(state),
     };
     let from = at as usize;
-    replies::write_reply(out, Host::REPLY, head, question, qtype, interface, table, from)
+    replies::write_reply(
+        out,
+        Host::REPLY,
+        head,
+        question,
+        qtype,
+        interface,
+        table,
+        from,
+    )
 }

@@ -104,7 +104,7 @@ returns-2 c =
     let e = n .before .before in
     let g = given e .args in
     let v =
-    s .answer .ensures (host e) (g .interface) (g .to) (is-seen e) (own-seen (g .t1) (g .clock) (g .names) (g .from .address)) (heard e)
+    s .answer .ensures (host e) (g .to) (is-seen e) (own-seen (g .t1) (g .clock) (g .names) (g .from .address)) (heard e)
     (state-seen (g .t1) (g .clock) (g .names) (g .interface) _ _ (n .name-at .ensures .0)) in
     rw (c .step .ensures) (flattens (g .t1) (g .clock) (g .names) (s .answer .result) _ (g .interface) (λ x. n .name-at .ensures .1) v, within (s .answer .result) (g .interface) (v .within))
 
