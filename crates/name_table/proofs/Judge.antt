@@ -6,10 +6,10 @@ use mathlib.Core.Bool.{Bool, true, false}
 use mathlib.Core.Logic.{_⊎_, inl, inr, ⊎-elim}
 use native.Mathlib.Omega.{arith}
 use native.Mathlib.Nat.{add-zero}
-use lib.Dec.{leb, eqb}
+use lib.Dec.{ltb, leb, eqb}
 use lib.ListN.{length, getD, take, drop, length-append, take-append-drop}
 use lib.Seq.{drop-drop, take-length}
-use borrow.Author.Tests.{eq-eqb, eqb-true, eqb-false, leb-true, leb-false}
+use borrow.Author.Tests.{eq-eqb, eqb-true, eqb-false, ltb-true, ltb-false, leb-true, leb-false}
 use Rattle.octets.specs.Bounds.{usedBy4, usedBy6}
 use Rattle.octets.specs.Octets.{Octets}
 use Rattle.octets.proofs.Tests.{split}
@@ -162,8 +162,8 @@ module _ (es : List Entry) (s : List ℕ) (o : Octets s) (x : AreNames (names es
           same unique n = refl
           same shared n = refl
 
-  no-names : eqb (length (located 0 es)) 0 ≡ true → names es ≡ []
-  no-names g = empty (names es) (sym (located-length 0 es) ∙ eqb-true _ _ g)
+  no-names : length (located 0 es) ≡ 0 → names es ≡ []
+  no-names g = empty (names es) (sym (located-length 0 es) ∙ g)
     where
       empty : (ns : List Labels) → length ns ≡ 0 → ns ≡ []
       empty [] h = refl
@@ -177,7 +177,7 @@ module _ (es : List Entry) (s : List ℕ) (o : Octets s) (x : AreNames (names es
   judge-record form d rules b k unformed high low =
       split form
       (λ f. split (eqb (length (located 0 es)) 0)
-      (λ g. refused (no-owner high (no-names g)) (rw (f, g))) λ g.
+      (λ g. refused (no-owner high (no-names (eqb-true _ _ g))) (rw (f, g))) λ g.
       let some : length (located 0 es) ≡ 0 → ⊥ = eqb-false _ _ g in
       split (leb mostRecords (records es))
       (λ h. refused (too-many-records high low (leb-true _ _ h)) (rw (f, g, h))) λ h.
@@ -190,11 +190,10 @@ module _ (es : List Entry) (s : List ℕ) (o : Octets s) (x : AreNames (names es
   judge-mask : kindAt s ≡ 6 → Judged es s (stepBy (maskForm (length (located 0 es)) (bodyAt s)) (kindAt s) (bodyAt s) (lengthAt s) (stateOf es))
   unfolding maskForm isMask
   judge-mask k =
+      split (ltb 0 (length (located 0 es)))
+      (λ f. let some : 0 < length (located 0 es) = ltb-true _ _ f in
       split (eqb (length (bodyAt s)) 1)
-      (λ f. let one = single (bodyAt s) (eqb-true _ _ f) in
-      split (eqb (length (located 0 es)) 0)
-      (λ g. refused (no-owner (omega arith) (no-names g)) (rw (f, g))) λ g.
-      let some : length (located 0 es) ≡ 0 → ⊥ = eqb-false _ _ g in
+      (λ g. let one = single (bodyAt s) (eqb-true _ _ g) in
       split (leb 1 (getD (bodyAt s) 0 0))
       (λ h. split (leb (getD (bodyAt s) 0 0) everywhere)
       (λ i. let m : ℕ = getD (bodyAt s) 0 0 in
@@ -205,7 +204,9 @@ module _ (es : List Entry) (s : List ℕ) (o : Octets s) (x : AreNames (names es
       (λ h. let z : getD (bodyAt s) 0 0 < 1 = leb-false _ _ h in
       let zero-is : getD (bodyAt s) 0 0 ≡ 0 = omega arith in
       refused (mask-zero k (one ∙ ap (λ (m : ℕ). m ∷ []) zero-is)) (rw (f, g, h))))
-      (λ f. refused (not-1-octet k (eqb-false _ _ f)) (rw f))
+      (λ g. refused (not-1-octet k (eqb-false _ _ g)) (rw (f, g))))
+      (λ f. let none : length (located 0 es) ≤ 0 = ltb-false _ _ f in
+      refused (no-owner (omega arith) (no-names (omega arith))) (rw f))
     where
       single : (b : List ℕ) → length b ≡ 1 → b ≡ getD b 0 0 ∷ []
       single [] h = absurd (omega arith)

@@ -73,10 +73,11 @@ no-record-name names records b e =
 no-mask-name : (names : ℕ) (b : List ℕ) → maskForm names b ≡ Name → ⊥
 unfolding maskForm
 no-mask-name names b e =
-    split (eqb (length b) 1)
-    (λ f. split (eqb names 0) (λ g. let z : _≡_ {A = ℕ} 0 1 = cc (rw (f, g) at e) in omega arith) λ g.
-    split (isMask (octetAt b 0)) (λ h. let z : _≡_ {A = ℕ} 0 1 = cc (rw (f, g, h) at e) in omega arith)
+    split (ltb 0 names)
+    (λ f. split (eqb (length b) 1)
+    (λ g. split (isMask (octetAt b 0)) (λ h. let z : _≡_ {A = ℕ} 0 1 = cc (rw (f, g, h) at e) in omega arith)
     (λ h. let z : _≡_ {A = ℕ} 0 1 = cc (rw (f, g, h) at e) in omega arith))
+    (λ g. let z : _≡_ {A = ℕ} 0 1 = cc (rw (f, g) at e) in omega arith))
     (λ f. let z : _≡_ {A = ℕ} 0 1 = cc (rw f at e) in omega arith)
 
 kind-room : (k : Kind) (names records : ℕ) (b : List ℕ) → formBy k names records b ≡ Name → names < mostNames

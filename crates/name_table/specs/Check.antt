@@ -65,13 +65,14 @@ recordForm names records body =
     Record))
     Bad
 
--- A mask's entry, kind 6, is in form if its body is one octet, a name stands before it, and the octet is a mask.
+-- A mask's entry, kind 6, is in form if a name stands before it, and its body is one octet, which is a mask.
 unfoldable pub maskForm : ℕ → List ℕ → Form
 maskForm names body =
-    cond (eqb (length body) 1)
-    (cond (eqb names 0) Bad
+    cond (ltb 0 names)
+    (cond (eqb (length body) 1)
     (cond (isMask (octetAt body 0)) Mask
-    Bad))
+    Bad)
+    Bad)
     Bad
 
 unfoldable pub formBy : Kind → ℕ → ℕ → List ℕ → Form

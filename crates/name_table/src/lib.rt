@@ -166,12 +166,11 @@ fn is_mask(mask: u8) -> bool
 fn mask_form(names: usize, body: &[u8]) -> Form
     ensures { λ r. ⌜ r ≡ maskForm names (now (body .entry)) ⌝ }
 {
-    if body.len() == 1 {
-        if names == 0 {
-            return Form::Bad;
-        }
-        if is_mask(octets::octet(body, 0)) {
-            return Form::Mask;
+    if 0 < names {
+        if body.len() == 1 {
+            if is_mask(octets::octet(body, 0)) {
+                return Form::Mask;
+            }
         }
     }
     Form::Bad
