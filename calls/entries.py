@@ -17,7 +17,7 @@ KINDS = {
     "ask-tick": 43,
     "name": 54,
 }
-TABLE_KINDS = {"unique": 1, "shared": 2, "A": 3, "AAAA": 4, "PTR": 5}
+TABLE_KINDS = {"unique": 1, "shared": 2, "A": 3, "AAAA": 4, "PTR": 5, "on": 6}
 INTERFACES = ("if0", "if1", "if2", "if3")
 ROOM = 4096
 CACHE = 18432
@@ -204,11 +204,17 @@ def permission(name):
 
 
 def table_entry(words):
-    """The next entry of a table: unique NAME, shared NAME, A ADDRESS, AAAA ADDRESS, PTR NAME, kind=K OCTETS; or octets alone."""
+    """The next entry of a table: unique NAME, shared NAME, A ADDRESS, AAAA ADDRESS, PTR NAME, on INTERFACES, kind=K OCTETS; or octets alone."""
     word = words.take("an entry")
     if word.startswith("kind="):
         return entry(w.number(word[5:], 2), w.octets(w.Words(words.take("the entry's octets"))))
     if word not in TABLE_KINDS:
         return w.octets(w.Words(word))
     body = words.take(f"what belongs to {word}")
-    return entry(TABLE_KINDS[word], w.name(body) if word in ("unique", "shared") else w.record_data(word, body))
+    return entry(TABLE_KINDS[word], table_body(word, body))
+
+
+def table_body(word, body):
+    if word == "on":
+        return w.mask(body)
+    return w.name(body) if word in ("unique", "shared") else w.record_data(word, body)

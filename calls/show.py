@@ -116,9 +116,18 @@ def table_body_text(kind, body):
         if end != len(body):
             raise Unreadable
         return readable
+    if kind == 6:
+        return mask_text(body)
     if len(body) != {3: 4, 4: 16}[kind]:
         raise Unreadable
     return str(ipaddress.ip_address(body))
+
+
+def mask_text(body):
+    """The interfaces of a mask that is good."""
+    if len(body) != 1 or not 0 < body[0] < 16:
+        raise Unreadable
+    return ",".join(str(interface) for interface in range(4) if body[0] >> interface & 1)
 
 
 def table_raw(body):

@@ -205,6 +205,16 @@ def record_data(kind, word):
     return found[1:5] if kind == "A" else found[1:]
 
 
+def mask(word):
+    """Interfaces by their numbers, joined by commas in rising order, as an octet with a bit for each."""
+    interfaces = [number(one, 1) for one in word.split(",")]
+    if max(interfaces) > 3:
+        raise Mistake(f"an interface above 3: {word}")
+    if interfaces != sorted(set(interfaces)):
+        raise Mistake(f"interfaces that do not rise: {word}")
+    return bytes([sum(1 << interface for interface in interfaces)])
+
+
 def fields(text):
     """What a record has after its owner's name, from TYPE/DATA or ttl=SECONDS/TYPE/DATA: type, class 1, TTL, length of the data, data."""
     ttl, rest = TTL, text

@@ -202,6 +202,10 @@ llmnr_step llmnr_start(llmnr_settings settings, uint64_t clock, llmnr_names name
 /*
  * Takes a datagram that came on an interface, with its source address and port and its destination address: REPLY or QUERY, to be sent;
  * KEPT; STOPPED; or refused, for most of what other hosts say.
+ *
+ * A reply has only those records of the name that are valid on this interface, and no answer if there are none. An entry of kind 6 in the
+ * table, a mask of one octet, says where the records after it are valid, up to the next kind 6 or the next name: bit 0 stands for interface
+ * 0, and so on to bit 3. Records of a name before any kind 6 are valid on every interface.
  */
 llmnr_step llmnr_receive(llmnr_settings settings, uint64_t clock, llmnr_names names, const uint8_t *table, size_t table_len,
                          size_t interface, llmnr_endpoint from, llmnr_address to, const uint8_t *datagram, size_t datagram_len,

@@ -28,12 +28,13 @@ static const char help[] =
     "\n"
     "Answers LLMNR queries (RFC 4795) for the names of TABLE, a file made by make_table, on network interfaces such as\n"
     "eth0, by IPv4 and IPv6. A unique name is first asked for three times; it is answered for once nobody has objected.\n"
-    "An interface with addresses of both families counts as two; there may be 4 in all. Addresses are read and names are\n"
-    "verified once: start it again if a cable was moved to another link.\n"
+    "An interface with addresses of both families counts as two, first IPv4, then IPv6; there may be 4 in all. They are\n"
+    "numbered from 0 in this order; \"on\" in the text of a table goes by these numbers (make_table --help tells more).\n"
+    "Addresses are read and names are verified once: start it again if a cable was moved to another link.\n"
     "\n"
     "  --interval MS  wait so long for an answer to each question: 1000 (usual; what RFC 4795 gives for all kinds of links)\n"
     "                 or 100 (what it gives for Ethernet and WLAN). All hosts of a link need the same.\n"
-    "  --verbose      print each datagram too, and what became of it: a reply, or the number of a refusal (rules N)\n"
+    "  --verbose      print interface numbers and datagrams too, and what became of each: a reply, or a refusal (rules N)\n"
     "\n"
     "Prints a line for each change: time (UTC), name, interface and family, and the state: verifying (asked for, not yet\n"
     "owned), unique (owned), defending (owned; somebody told of a conflict), stopped (another host has it; it may no\n"
@@ -113,11 +114,6 @@ static uint16_t fresh_id(void)
     return id;
 }
 
-static int socket_of(const indicator *me, uint8_t family)
-{
-    return me->sockets[family == 4 ? 0 : 1];
-}
-
 /*
  * Sends what a call wrote (P3). A query that nobody can hear ends the program, since a name that was not asked for must not be owned. A
  * reply may be lost, unless the address is: then names have to be verified anew.
@@ -130,7 +126,7 @@ static void send_out(const indicator *me, size_t i, const llmnr_step *step)
 
     if (query && !net_linked(used))
         fail(FAILED_LOST, "%s/%s: the link is lost", used->port, net_family(used));
-    if (net_send(socket_of(me, used->address.family), used, &step->to, me->out, step->outcome.len))
+    if (net_send(me->sockets[used->address.family == 4 ? 0 : 1], used, &step->to, me->out, step->outcome.len))
         return;
     error = errno;
     if (query)
@@ -193,11 +189,10 @@ static void hand_over(indicator *me, uint64_t time)
 {
     const net_datagram *d = &me->datagram;
     llmnr_step step;
-    size_t i;
+    size_t i = 0;
 
-    for (i = 0; i < me->count; i++)
-        if (me->used[i].index == d->index && me->used[i].address.family == d->to.family)
-            break;
+    while (i < me->count && (me->used[i].index != d->index || me->used[i].address.family != d->to.family))
+        i++;
     if (i == me->count)
         return;
     step = llmnr_receive(me->host.settings, me->host.clock, me->host.interfaces[i], me->table, me->table_len, i, d->from, d->to,
@@ -294,6 +289,8 @@ static void use_family(indicator *me, const char *port, uint8_t family)
         exit(0);
     if (!net_usable(&found))
         fail(FAILED_NO_ADDRESS, "%s: its %s address cannot be used: %s", port, net_family(&found), strerror(errno));
+    if (me->verbose)
+        printf("%s/%s: interface %zu\n", port, net_family(&found), me->count);
     me->used[me->count++] = found;
 }
 

@@ -34,6 +34,15 @@ static const char help[] =
     "    unique 17.2.0.192.in-addr.arpa\n"
     "        PTR scale3           a name as data; a dot alone is the root\n"
     "\n"
+    "Records serve on every interface; those below an \"on\" only on the interfaces with its numbers, up to the next \"on\" or\n"
+    "the next name. For indicator TABLE eth0 eth1, if both have IPv4 and IPv6:\n"
+    "\n"
+    "    unique scale3\n"
+    "        on 0,1               asked at eth0, by IPv4 (0) or by IPv6 (1)\n"
+    "        A 192.0.2.17\n"
+    "        on 2,3               asked at eth1\n"
+    "        A 198.51.100.17\n"
+    "\n"
     "In a name \\DDD is the octet with that decimal number. A word that begins with # begins a comment. There are at most 8\n"
     "names, 24 records to a name, and 4096 octets in all. Terminals that use systemd-resolved need both A and AAAA.\n"
     "\n"
@@ -43,7 +52,9 @@ static const char help[] =
 static const struct {
     const char *word;
     unsigned kind;
-} kinds[] = {{"unique", TABLE_UNIQUE}, {"shared", TABLE_SHARED}, {"A", TABLE_A}, {"AAAA", TABLE_AAAA}, {"PTR", TABLE_PTR}};
+} kinds[] = {
+    {"unique", TABLE_UNIQUE}, {"shared", TABLE_SHARED}, {"A", TABLE_A}, {"AAAA", TABLE_AAAA}, {"PTR", TABLE_PTR}, {"on", TABLE_MASK},
+};
 
 #define KINDS (sizeof kinds / sizeof kinds[0])
 
@@ -69,6 +80,12 @@ static size_t read_body(const maker *m, unsigned kind, const char *word, uint8_t
             fail(FAILED_TABLE, "line %zu: not an IPv%d address: %s", m->line, kind == TABLE_A ? 4 : 6, word);
         return len;
     }
+    if (kind == TABLE_MASK) {
+        body[0] = words_to_mask(word, &why);
+        if (body[0] == 0)
+            fail(FAILED_TABLE, "line %zu: not interfaces: %s: %s", m->line, word, why);
+        return 1;
+    }
     len = words_to_name(word, body, &why);
     if (len == 0)
         fail(FAILED_TABLE, "line %zu: not a name: %s: %s", m->line, word, why);
@@ -82,6 +99,8 @@ static const char *reason(const maker *m, size_t at)
 
     if (m->len > LLMNR_TABLE)
         return "with this line the table has more than 4096 octets";
+    if (kind == TABLE_MASK)
+        return "on stands before any name";
     if (!table_is_name(kind))
         return m->names == 0 ? "a record before any name" : "a 25th record; a name has at most 24";
     if (m->names == LLMNR_NAMES)
@@ -128,7 +147,7 @@ static void read_line(maker *m, char *line)
     for (k = 0; k < KINDS && strcmp(first, kinds[k].word) != 0; k++)
         ;
     if (k == KINDS)
-        fail(FAILED_TABLE, "line %zu: not understood: %s (unique, shared, A, AAAA or PTR)", m->line, first);
+        fail(FAILED_TABLE, "line %zu: not understood: %s (unique, shared, A, AAAA, PTR or on)", m->line, first);
     second = next_word(&rest);
     if (second == NULL)
         fail(FAILED_TABLE, "line %zu: a word is missing after %s", m->line, first);
@@ -176,10 +195,14 @@ static void print_entry(const uint8_t *table, size_t at)
     char text[WORDS_NAME];
     size_t k;
 
-    for (k = 0; kinds[k].kind != kind; k++)
+    for (k = 0; k < KINDS && kinds[k].kind != kind; k++)
         ;
+    if (k == KINDS)
+        fail(FAILED_TABLE, "the entry at offset %zu is of kind %u, which has no word", at, kind);
     if (kind == TABLE_A || kind == TABLE_AAAA)
         inet_ntop(kind == TABLE_A ? AF_INET : AF_INET6, body, text, sizeof text);
+    else if (kind == TABLE_MASK)
+        words_of_mask(body[0], text);
     else
         words_of_name(body, text);
     printf("%s%s %s\n", table_is_name(kind) ? "" : "    ", kinds[k].word, text);

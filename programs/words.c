@@ -97,6 +97,26 @@ size_t words_to_name(const char *text, uint8_t *name, const char **why)
     return len + 1;
 }
 
+uint8_t words_to_mask(const char *text, const char **why)
+{
+    unsigned mask = 0, bit;
+
+    for (;; text += 2) {
+        if (text[0] < '0' || text[0] >= '0' + LLMNR_INTERFACES || (text[1] != ',' && text[1] != '\0')) {
+            *why = "numbers from 0 to 3 are needed, with commas between them";
+            return 0;
+        }
+        bit = 1u << (text[0] - '0');
+        if (bit <= mask) {
+            *why = "each number has to be above the one before";
+            return 0;
+        }
+        mask |= bit;
+        if (text[1] == '\0')
+            return (uint8_t)mask;
+    }
+}
+
 uint16_t words_to_interval(const char *text)
 {
     if (text != NULL && strcmp(text, "100") == 0)
@@ -128,6 +148,20 @@ void words_of_name(const uint8_t *name, char *text)
         }
     }
     *text = '\0';
+}
+
+void words_of_mask(uint8_t mask, char *text)
+{
+    const char *before = "";
+    unsigned i;
+
+    *text = '\0';
+    for (i = 0; i < LLMNR_INTERFACES; i++) {
+        if ((mask >> i & 1) != 0) {
+            text += sprintf(text, "%s%u", before, i);
+            before = ",";
+        }
+    }
 }
 
 void words_of_address(const llmnr_address *address, const char *port, char *text)

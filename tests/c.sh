@@ -19,7 +19,7 @@ flags='-Wall -Wextra -Werror -Iinclude'
 gcc -std=c99 -pedantic $flags -c -x c include/llmnr.h -o "$work/header.o"
 g++ -pedantic $flags -c -x c++ include/llmnr.h -o "$work/header.o"
 passed=''
-for program in examples/embed tests/layout tests/steps tests/orders tests/lookups tests/constants tests/ends; do
+for program in examples/embed tests/layout tests/steps tests/orders tests/lookups tests/constants tests/ends tests/ports; do
     name=$(basename "$program")
     for level in -O0 -O2; do
         gcc -std=c99 -pedantic $flags $level "$program.c" "$archive" -o "$work/$name"

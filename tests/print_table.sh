@@ -1,5 +1,6 @@
 #!/usr/bin/env bash
-# Runs the table printer on cases and compares what it prints with what document 01 says. Tables are written in hexadecimal.
+# Runs the table printer on cases and compares what it prints with what document 01 says, and document 02 about masks. Tables are written
+# in hexadecimal.
 # The last line counts the cases; the exit status is 0 only if there were some and all passed.
 set -u
 program=${1:-target/bin/print_table}
@@ -32,6 +33,7 @@ shared() { entry 2 "$(name "$@")"; }
 a=$(entry 3 c0000211)
 aaaa=$(entry 4 "$(repeat 20 16)")
 ptr=$(entry 5 "$(name host plant)")
+mask() { entry 6 "$1"; }
 s=$(unique scale3)$a
 
 check 'the empty table' '' 'names 0'
@@ -55,7 +57,8 @@ check '24 records, and 24 of the next name' "$(unique n1)$(repeat "$a" 24)$(uniq
 
 check 'a record before any name' "$a$(unique n1)" 'refused 2 at 0'
 check 'kind 0' "$s$(entry 0 00)" 'refused 2 at 20'
-check 'kind 6' "$s$(entry 6 00)" 'refused 2 at 20'
+check 'kind 7' "$s$(entry 7 01)" 'refused 2 at 20'
+check 'kind 262' "$s$(entry 262 01)" 'refused 2 at 20'
 check 'kind 257' "$s$(entry 257 "$(name n2)")" 'refused 2 at 20'
 check 'length 3' "${s}030001" 'refused 2 at 20'
 check 'length 0' "${s}00000100" 'refused 2 at 20'
@@ -67,6 +70,27 @@ check 'an A record of 3 octets' "$(unique n1)$(entry 3 c00002)" 'refused 2 at 8'
 check 'an A record of 5 octets' "$(unique n1)$(entry 3 c000021100)" 'refused 2 at 8'
 check 'an AAAA record of 15 octets' "$(unique n1)$(entry 4 "$(repeat 20 15)")" 'refused 2 at 8'
 check 'an AAAA record of 17 octets' "$(unique n1)$(entry 4 "$(repeat 20 17)")" 'refused 2 at 8'
+
+# masks, kind 6: from 1 to 15, one octet, after a name; they are no records and are not printed
+check 'a mask of 1' "$(unique scale3)$(mask 01)$a" 'names 1|0 unique 8 1'
+check 'a mask of 15' "$(unique scale3)$(mask 0f)$a" 'names 1|0 unique 8 1'
+check 'a mask of 0' "$s$(mask 00)" 'refused 2 at 20'
+check 'a mask of 16' "$s$(mask 10)" 'refused 2 at 20'
+check 'a mask of 17' "$s$(mask 11)" 'refused 2 at 20'
+check 'a mask of 255' "$s$(mask ff)" 'refused 2 at 20'
+check 'a mask with no octet' "$s$(mask '')" 'refused 2 at 20'
+check 'a mask of two octets' "$s$(mask 0100)" 'refused 2 at 20'
+check 'a mask before any name' "$(mask 01)$s" 'refused 2 at 0'
+check 'a bad mask after a good one' "$(unique scale3)$(mask 01)$(mask 00)$a" 'refused 2 at 17'
+check 'a mask with no record' "$(unique scale3)$(mask 01)" 'names 1|0 unique 8 0'
+check 'a mask at the end' "$s$(mask 01)" 'names 1|0 unique 8 1'
+check 'masks in a row, before records and before the next name' \
+    "$(unique scale3)$(mask 01)$(mask 02)$a$(mask 04)$(shared all)$(mask 08)$a$ptr" 'names 2|0 unique 8 1|1 shared 5 2'
+check '24 records with masks between' "$(unique n1)$(repeat "$(mask 03)$a" 24)$(mask 0c)" 'names 1|0 unique 4 24'
+check '100 masks and 24 records' "$(unique n1)$(repeat "$(mask 03)" 100)$(repeat "$a" 24)" 'names 1|0 unique 4 24'
+check 'a 25th record with masks between' "$(unique n1)$(repeat "$(mask 03)$a" 25)" "refused 2 at $((8 + 24 * 13 + 5))"
+check 'eight names with a mask each' "$(for k in 1 2 3 4 5 6 7 8; do unique "n$k"; mask 01; done)" \
+    'names 8|0 unique 4 0|1 unique 4 0|2 unique 4 0|3 unique 4 0|4 unique 4 0|5 unique 4 0|6 unique 4 0|7 unique 4 0'
 
 check 'the root as a unique name' "$(entry 1 00)" 'refused 2 at 0'
 check 'the root as a shared name' "$(entry 2 00)" 'refused 2 at 0'
@@ -106,10 +130,11 @@ check 'a long table whose first entry is bad' "$(repeat 00 4200)" 'refused 2 at 
 check 'a table of 4,096 zero octets' "$(repeat 00 4096)" 'refused 2 at 0'
 
 # a table cut anywhere: good where an entry ends, else refused where the last whole entry ends
-table=$(unique scale3)$a$aaaa$ptr$(shared all)$ptr
+table=$(unique scale3)$a$aaaa$ptr$(shared all)$ptr$(mask 02)$a
 lines=('names 0' 'names 1|0 unique 8 0' 'names 1|0 unique 8 1' 'names 1|0 unique 8 2' 'names 1|0 unique 8 3'
-    'names 2|0 unique 8 3|1 shared 5 0' 'names 2|0 unique 8 3|1 shared 5 1')
-ends=(0 12 20 40 56 65 81)
+    'names 2|0 unique 8 3|1 shared 5 0' 'names 2|0 unique 8 3|1 shared 5 1' 'names 2|0 unique 8 3|1 shared 5 1'
+    'names 2|0 unique 8 3|1 shared 5 2')
+ends=(0 12 20 40 56 65 81 86 94)
 for ((cut = 0; 2 * cut <= ${#table}; cut++)); do
     k=0
     for j in "${!ends[@]}"; do [ "${ends[$j]}" -le "$cut" ] && k=$j; done

@@ -106,6 +106,27 @@ make_table "$work/text" >"$work/table"
 judge '4,096 octets' "$? $(wc -c <"$work/table" | tr -d ' ')" '0 4096'
 round '4,096 octets, and back' "$work/table"
 
+# masks: on which interfaces the records below serve
+name=0c000100067363616c653300
+hall=08000300c0000211
+office=08000300c6336411
+aaaa=1400040020010db8000000000000000000000017
+good 'two ports' 'unique scale3\nAAAA 2001:db8::17\non 0\nA 192.0.2.17\non 1\nA 198.51.100.17\n' \
+    "$name${aaaa}0500060001${hall}0500060002$office"
+make_table --back "$work/table" >"$work/back"
+judge 'two ports, as a text' "$(cat "$work/back")" \
+    "$(printf '%s\n' 'unique scale3' '    AAAA 2001:db8::17' '    on 0' '    A 192.0.2.17' '    on 1' '    A 198.51.100.17')"
+good 'masks with no record, two in a row, and at the end' 'unique a\non 0\nshared b\non 1\non 0,2 # mask 5\nA 192.0.2.17\non 3\n' \
+    "0700010001610005000600010700020001620005000600020500060005${hall}0500060008"
+masks=(0 1 0,1 2 0,2 1,2 0,1,2 3 0,3 1,3 0,1,3 2,3 0,2,3 1,2,3 0,1,2,3)
+for k in "${!masks[@]}"; do
+    good "on ${masks[k]}" "unique scale3\non ${masks[k]}\nA 192.0.2.17\n" "${name}05000600$(printf %02x $((k + 1)))$hall"
+    make_table --back "$work/table" >"$work/back"
+    judge "on ${masks[k]}, as a text" "$(sed -n 2p "$work/back")" "    on ${masks[k]}"
+done
+good '24 records with masks between' "unique scale3\n$(repeat 'on 1\nA 192.0.2.17\n' 24)on 0\non 1\n" \
+    "$name$(repeat "0500060002$hall" 24)05000600010500060002"
+
 # every octet in a label, and random labels
 all=$(for ((k = 0; k < 256; k++)); do printf %02x "$k"; done)
 for ((k = 0; k < 5; k++)); do
@@ -128,8 +149,8 @@ done
 
 # ---- bad texts ----
 
-bad 'not a kind' 'unique a\nCNAME b\n' 'line 2: not understood: CNAME (unique, shared, A, AAAA or PTR)'
-bad 'a kind in other letters' 'Unique a\n' 'line 1: not understood: Unique (unique, shared, A, AAAA or PTR)'
+bad 'not a kind' 'unique a\nCNAME b\n' 'line 2: not understood: CNAME (unique, shared, A, AAAA, PTR or on)'
+bad 'a kind in other letters' 'Unique a\n' 'line 1: not understood: Unique (unique, shared, A, AAAA, PTR or on)'
 bad 'nothing after the kind' '\n\nunique # none\n' 'line 3: a word is missing after unique'
 bad 'a word too many' 'unique a b\n' 'line 1: one word too many: b'
 bad 'IPv4: no number' 'unique a\nA 192.0.2.x\n' 'line 2: not an IPv4 address: 192.0.2.x'
@@ -151,6 +172,18 @@ bad 'a name again' 'unique scale3\nA 192.0.2.17\nshared Scale3\n' \
 bad 'a ninth name' "$(for k in 1 2 3 4 5 6 7 8 9; do printf 'unique n%s\\n' "$k"; done)" 'line 9: a ninth name; a table has at most 8'
 bad 'a 25th record' "unique a\n$(repeat 'A 192.0.2.17\n' 25)" 'line 26: a 25th record; a name has at most 24'
 bad '4,097 octets' "${exact}x\n" 'line 200: with this line the table has more than 4096 octets'
+bad 'on before any name' '# none\non 0\nunique a\n' 'line 2: on stands before any name'
+bad 'no interface' 'unique a\non # none\n' 'line 2: a word is missing after on'
+bad 'interfaces with space' 'unique a\non 0, 2\n' 'line 2: one word too many: 2'
+for mask in 4 0,4 3,9 10 00 01 0x1 -1 x A , ,0 0, 0,,1 '0;1' 01,2 0,1,2,3, 0,1,2,3,4; do
+    bad "on $mask" "unique a\nA 192.0.2.17\non $mask\n" \
+        "line 3: not interfaces: $mask: numbers from 0 to 3 are needed, with commas between them"
+done
+for mask in 0,0 1,1 2,0 0,2,1 0,1,2,2 0,3,2 0,1,2,3,3 0,1,2,3,0; do
+    bad "on $mask" "unique a\nA 192.0.2.17\non $mask\n" "line 3: not interfaces: $mask: each number has to be above the one before"
+done
+bad 'a 25th record with masks between' "unique a\n$(repeat 'on 0\nA 192.0.2.17\n' 25)" 'line 51: a 25th record; a name has at most 24'
+bad '4,101 octets with a mask' "$exact\non 0\n" 'line 201: with this line the table has more than 4096 octets'
 bad 'an octet 0' 'unique a\nA\x00 192.0.2.17\n' 'line 2: an octet 0; is this a text?'
 bad 'the first of two' 'unique a\nA x\nA y\n' 'line 2: not an IPv4 address: x'
 
@@ -159,6 +192,12 @@ bad 'the first of two' 'unique a\nA x\nA y\n' 'line 2: not an IPv4 address: x'
 bad_table 'S less its last octet' "${s%??}" 'no good name table: the entry at offset 12 is bad'
 bad_table 'S twice' "$s$s" 'no good name table: the entry at offset 20 is bad'
 bad_table 'a record first' 08000300c0000211 'no good name table: the entry at offset 0 is bad'
+bad_table 'a mask of 0' "${s}0500060000" 'no good name table: the entry at offset 20 is bad'
+bad_table 'a mask of 16' "${s}0500060010" 'no good name table: the entry at offset 20 is bad'
+bad_table 'a mask of no octet' "${s}04000600" 'no good name table: the entry at offset 20 is bad'
+bad_table 'a mask of two octets' "${s}060006000100" 'no good name table: the entry at offset 20 is bad'
+bad_table 'a mask first' "0500060001$s" 'no good name table: the entry at offset 0 is bad'
+bad_table 'kind 7' "${s}0500070001" 'no good name table: the entry at offset 20 is bad'
 bad_table '4,097 octets' "$(repeat 00 4097)" 'more than 4096 octets, so no name table'
 
 # ---- usage and files ----

@@ -113,7 +113,8 @@ impl Host {
             (true, _) => self.decide(prefix, number, arrival, fault),
             (false, true) => self.defend(prefix, number, question, fault),
             (false, false) => {
-                let octets = reply(message.header.id, question, &lent.names[number], &standing, fault).encode();
+                let (id, named) = (message.header.id, &lent.names[number]);
+                let octets = reply(id, question, named, prefix.interface, &standing, fault).encode();
                 Outcome::Reply { to: Endpoint { address: arrival.source, port: arrival.port }, octets }
             }
         }

@@ -73,6 +73,8 @@ pub const QUERY: &[ReceiveCheck] = &[
     (10, |call| call.arrival.no_question()),
     (11, has_wrong_class),
     (12, |call| call.host.number.is_none() || call.host.standing == Standing::Off),
+    // A name of whose records none is valid here is answered: only a planted fault refuses it.
+    (12, |call| call.host.given.fault == faults::NONE_HERE_REFUSED && has_none_here(&call.host)),
     (13, |call| matches!(call.host.standing, Standing::Stopped { .. })),
     (14, is_wrong_notice),
 ];
@@ -125,6 +127,15 @@ fn has_wrong_query_counts(call: &ReceiveView) -> bool {
 fn has_wrong_class(call: &ReceiveView) -> bool {
     let question = call.arrival.message.question.as_ref();
     question.is_none_or(|question| !matches!(question.class, CLASS_IN | ANY))
+}
+
+/// Whether the name has records, and none is valid on the call's interface.
+fn has_none_here(call: &HostView) -> bool {
+    let interface = call.given.prefix.interface;
+    let named = call.number.and_then(|number| call.lent.names.get(number));
+    named.is_some_and(|named| {
+        !named.records(|_| true).is_empty() && named.records(|run| run.on.contains(&interface)).is_empty()
+    })
 }
 
 fn is_wrong_notice(call: &ReceiveView) -> bool {

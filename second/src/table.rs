@@ -6,6 +6,7 @@ use crate::names::{self, Labels};
 const LONGEST_TABLE: usize = 4_096;
 const MOST_NAMES: usize = 8;
 const MOST_RECORDS: usize = 24;
+const EVERYWHERE: [u8; 4] = [0, 1, 2, 3];
 
 /// What a name has in the table: type and data.
 #[derive(Clone, PartialEq, Eq, Debug)]
@@ -14,11 +15,45 @@ pub struct Data {
     pub octets: Vec<u8>,
 }
 
+/// Records that follow one another without a kind 6 between them.
+#[derive(Clone, PartialEq, Eq, Debug)]
+pub struct Run {
+    /// The interfaces on which these records are valid.
+    pub on: Vec<u8>,
+    pub records: Vec<Data>,
+}
+
 #[derive(Clone, PartialEq, Eq, Debug)]
 pub struct Named {
     pub labels: Labels,
     pub shared: bool,
-    pub records: Vec<Data>,
+    /// The records before any kind 6, and then those after each.
+    pub runs: Vec<Run>,
+}
+
+impl Named {
+    /// The records of the runs that are wanted, in table order.
+    pub fn records(&self, wanted: impl Fn(&Run) -> bool) -> Vec<&Data> {
+        self.runs.iter().filter(|run| wanted(run)).flat_map(|run| &run.records).collect()
+    }
+
+    /// Whether another record would be one too many.
+    fn is_full(&self, fault: Fault) -> bool {
+        let masks = if fault == faults::MASK_COUNTED { self.runs.len() - 1 } else { 0 };
+        let most = MOST_RECORDS + usize::from(fault == faults::TABLE_25_RECORDS);
+        self.records(|_| true).len() + masks >= most
+    }
+
+    /// Begins a run that is valid on these interfaces.
+    fn begin_run(&mut self, mut on: Vec<u8>, fault: Fault) {
+        match (fault, &mut self.runs[..]) {
+            (faults::MASK_EARLIER, [only]) => only.on = on.clone(),
+            (faults::MASK_FIRST_STAYS, [_, first, ..]) => on = first.on.clone(),
+            (faults::MASKS_JOINED, [_, .., last]) if last.records.is_empty() => on.extend(&last.on),
+            _ => {}
+        }
+        self.runs.push(Run { on, records: Vec::new() });
+    }
 }
 
 /// The table that is lent from one entry 31 to the next. A bad one has no names.
@@ -84,19 +119,55 @@ fn take_entry(names: &mut Vec<Named>, entry: &Entry, fault: Fault) -> Option<()>
             if names.len() == MOST_NAMES || names.iter().any(|named| taken(&named.labels, &labels, fault)) {
                 return None;
             }
-            names.push(Named { labels, shared: entry.kind == 2, records: Vec::new() });
+            let runs = vec![Run { on: first_run(names, fault), records: Vec::new() }];
+            names.push(Named { labels, shared: entry.kind == 2, runs });
+        }
+        6 => {
+            let on = interfaces(entry.body, fault)?;
+            match names.last_mut() {
+                Some(named) if fault == faults::MASK_COUNTED && named.is_full(fault) => return None,
+                Some(named) => named.begin_run(on, fault),
+                None if fault == faults::MASK_BEFORE_NAMES => {}
+                None => return None,
+            }
         }
         _ => {
             let record = record(entry, fault)?;
-            let named = names.last_mut()?;
-            let most = MOST_RECORDS + usize::from(fault == faults::TABLE_25_RECORDS);
-            if named.records.len() == most {
-                return None;
-            }
-            named.records.push(record);
+            let named = names.last_mut().filter(|named| !named.is_full(fault))?;
+            named.runs.last_mut()?.records.push(record);
         }
     }
     Some(())
+}
+
+/// Where a name's records before any kind 6 are valid: everywhere.
+fn first_run(names: &[Named], fault: Fault) -> Vec<u8> {
+    let before = names.last().and_then(|named| named.runs.last());
+    match before {
+        Some(run) if fault == faults::MASK_NEXT_NAME => run.on.clone(),
+        _ => EVERYWHERE.to_vec(),
+    }
+}
+
+/// The interfaces of a kind 6, by its bits.
+fn interfaces(body: &[u8], fault: Fault) -> Option<Vec<u8>> {
+    let mask = match body {
+        [mask] => *mask,
+        [mask, ..] if fault == faults::MASK_2_OCTETS => *mask,
+        _ => return None,
+    };
+    let good = match fault {
+        faults::MASK_0 => mask <= 15,
+        faults::MASK_16 => matches!(mask, 1..=16),
+        faults::MASK_LOW_BITS => mask % 16 != 0,
+        _ => matches!(mask, 1..=15),
+    };
+    let bit = |interface: &u8| match fault {
+        faults::MASK_BIT_1 => interface + 1,
+        faults::MASK_BIT_3 => 3 - interface,
+        _ => *interface,
+    };
+    good.then(|| EVERYWHERE.into_iter().filter(|interface| mask & (1 << bit(interface)) != 0).collect())
 }
 
 fn taken(earlier: &Labels, labels: &Labels, fault: Fault) -> bool {
@@ -156,5 +227,52 @@ mod tests {
         let records = |number: usize| [&S[..12], &S[12..].repeat(number)].concat();
         assert_eq!(bad_at(&records(24)), None);
         assert_eq!(bad_at(&records(25)), Some(12 + 24 * 8));
+    }
+
+    /// A kind 6 with one octet.
+    fn on(mask: u8) -> [u8; 5] {
+        [5, 0, 6, 0, mask]
+    }
+
+    #[test]
+    fn masks_that_are_good_and_bad() {
+        for mask in 0..=255 {
+            let wanted = if (1..=15).contains(&mask) { None } else { Some(20) };
+            assert_eq!(bad_at(&[&S[..], &on(mask)].concat()), wanted, "{mask}");
+        }
+        assert_eq!(bad_at(&[&S[..12], &[4, 0, 6, 0], &S[12..]].concat()), Some(12));
+        assert_eq!(bad_at(&[&S[..12], &[6, 0, 6, 0, 1, 0], &S[12..]].concat()), Some(12));
+        assert_eq!(bad_at(&[&S[..], &[5, 0, 6, 1, 1]].concat()), Some(20));
+        assert_eq!(bad_at(&[&S[..], &[5, 0, 7, 0, 1]].concat()), Some(20));
+        assert_eq!(bad_at(&on(1)), Some(0));
+        assert_eq!(bad_at(&[&on(1), &S[..]].concat()), Some(0));
+        assert_eq!(bad_at(&[&S[..], &on(1).repeat(100)].concat()), None);
+    }
+
+    #[test]
+    fn a_mask_is_no_record() {
+        let pairs = |number: usize| [&S[..12], &[&on(3), &S[12..]].concat().repeat(number)].concat();
+        assert_eq!(bad_at(&pairs(24)), None);
+        assert_eq!(bad_at(&[&pairs(24)[..], &on(8), &on(9)].concat()), None);
+        assert_eq!(bad_at(&pairs(25)), Some(12 + 24 * 13 + 5));
+    }
+
+    /// How many records each name has on each interface.
+    fn counts(octets: &[u8]) -> Vec<[usize; 4]> {
+        let count = |named: &Named| EVERYWHERE.map(|interface| named.records(|run| run.on.contains(&interface)).len());
+        Lent::decode(octets, faults::NONE).names.iter().map(count).collect()
+    }
+
+    #[test]
+    fn a_mask_holds_up_to_the_next_or_the_next_name() {
+        let (name, a) = S.split_at(12);
+        let other = b"\x07\0\x02\0\x01a\0";
+        assert_eq!(counts(&S), [[1; 4]]);
+        assert_eq!(counts(&[name, &on(5), a, a].concat()), [[2, 0, 2, 0]]);
+        assert_eq!(counts(&[name, a, &on(2), a, &on(12), a].concat()), [[1, 2, 2, 2]]);
+        assert_eq!(counts(&[name, &on(1), &on(8), a].concat()), [[0, 0, 0, 1]]);
+        assert_eq!(counts(&[name, a, &on(1)].concat()), [[1; 4]]);
+        assert_eq!(counts(&[name, &on(1), a, other, a].concat()), [[1, 0, 0, 0], [1; 4]]);
+        assert_eq!(counts(&[name, a, &on(1), other, a].concat()), [[1; 4], [1; 4]]);
     }
 }

@@ -1,12 +1,14 @@
 //! How often each outcome of each call was reached, from the lines that both programs printed. Each outcome and each
 //! refusal that the rules provide for must be reached, and no other.
 
+mod ports;
 mod stops;
 
 use crate::calls::{read, Call};
 use crate::faults;
 use crate::names::{is_reverse, read_plain};
 use crate::rows::Rows;
+use ports::Ports;
 use stops::Stops;
 
 /// Calls with the outcomes and refusal numbers that the rules' orders of checks give. Datagrams go by their QR bit.
@@ -39,6 +41,8 @@ const EXPECTED: &[(&str, &str)] = &[
     ),
     (stops::LOST, stops::LOST_NOTES),
     (stops::AGAIN, stops::AGAIN_NOTES),
+    (ports::TABLES, ports::TABLES_NOTES),
+    (ports::REPLIES, ports::REPLIES_NOTES),
 ];
 
 const LAST_TIME: &str = "281474976710655";
@@ -225,7 +229,7 @@ impl Tally {
     pub fn add(&mut self, file: &[u8], text: &str) {
         let (calls, _) = read(file);
         let mut before: Option<Line> = None;
-        let mut stops = Stops::default();
+        let (mut stops, mut ports) = (Stops::default(), Ports::default());
         for (number, line) in text.lines().enumerate() {
             let line = Line::read(line);
             let call = calls.get(number);
@@ -235,8 +239,9 @@ impl Tally {
             }
             of_note_in_ask(&line, call).into_iter().for_each(|note| self.rows.count("of note: asks", note));
             of_note(&line, call).into_iter().for_each(|note| self.rows.count("of note: others", note));
-            let (row, notes) = stops.of_note(&line, call);
-            notes.into_iter().for_each(|note| self.rows.count(row, note));
+            for (row, notes) in [stops.of_note(&line, call), ports.of_note(&line, call)] {
+                notes.into_iter().for_each(|note| self.rows.count(row, note));
+            }
             if let Some(note) = before.and_then(|before| of_note_in_pair(&before, &line)) {
                 self.rows.count("of note: others", note);
             }

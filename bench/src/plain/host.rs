@@ -121,7 +121,8 @@ pub fn receive(host: &mut Host, call: &Call, arrival: &Arrival, out: &mut [u8]) 
         NameState::Unique | NameState::Defending { .. } => 0,
     };
     host.clock = call.time;
-    let len = message::write_reply(out, &message, flags, names.records(call.table, name));
+    let records = names.records(call.table, name, call.interface);
+    let len = message::write_reply(out, &message, flags, records);
     Ok((Outcome::Reply { len }, arrival.from))
 }
 

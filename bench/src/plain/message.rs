@@ -149,7 +149,7 @@ pub fn write_name_query(out: &mut [u8; ROOM], id: u16, name: &[u8], qtype: u16) 
     end + 4
 }
 
-/// Writes the reply to a query from the records of its name, as many as fit, and gives its length.
+/// Writes the reply to a query from the records of its name that are valid here, as many as fit, and gives its length.
 #[inline]
 pub fn write_reply(out: &mut [u8; ROOM], query: &Message, flags: u16, records: Records) -> usize {
     let question = &query.question;

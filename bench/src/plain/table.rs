@@ -13,6 +13,10 @@ const SHARED: u16 = 2;
 const A: u16 = 3;
 const AAAA: u16 = 4;
 const PTR: u16 = 5;
+/// A mask for the records after it: bit i stands for interface i.
+const MASK: u16 = 6;
+/// The mask with every interface.
+const EVERYWHERE: u8 = 15;
 
 /// Where a name's octets stand in the table; its records begin where they end.
 #[derive(Clone, Copy, Default)]
@@ -48,9 +52,10 @@ impl Names {
                 }
                 (A, 4) | (AAAA, 16) => true,
                 (PTR, _) => names::is_whole(body),
+                (MASK, 1) => (1..=EVERYWHERE).contains(&body[0]),
                 _ => false,
             };
-            records += usize::from(kind > SHARED);
+            records += usize::from((A..=PTR).contains(&kind));
             if !good || self.count == 0 || records > MOST_RECORDS {
                 return Err(at);
             }
@@ -80,9 +85,11 @@ impl Names {
         (0..self.count.min(NAMES)).find(|&number| names::is_same(self.octets(table, number), name))
     }
 
+    /// The records of a name that are valid on an interface, which is below 4.
     #[inline]
-    pub fn records<'a>(&self, table: &'a [u8], number: usize) -> Records<'a> {
-        Records { rest: &table[usize::from(self.names[number].end)..] }
+    pub fn records<'a>(&self, table: &'a [u8], number: usize, interface: usize) -> Records<'a> {
+        let rest = &table[usize::from(self.names[number].end)..];
+        Records { rest, bit: 1 << interface, valid: true }
     }
 
     /// Takes in the name whose body ends at `end`, unless there is no place for it, it is the root or no name, or it
@@ -107,9 +114,13 @@ fn entry(rest: &[u8]) -> Option<(u16, &[u8])> {
     Some((u16::from_le_bytes([head[2], head[3]]), rest.get(HEAD..length)?))
 }
 
-/// The records of a name of a good table: type and data of each.
+/// The records of a name of a good table that are valid on one interface: type and data of each.
 pub struct Records<'a> {
     rest: &'a [u8],
+    /// The interface's bit in a mask.
+    bit: u8,
+    /// Whether the next record is valid there.
+    valid: bool,
 }
 
 impl<'a> Iterator for Records<'a> {
@@ -117,14 +128,21 @@ impl<'a> Iterator for Records<'a> {
 
     #[inline]
     fn next(&mut self) -> Option<(u16, &'a [u8])> {
-        let (kind, body) = entry(self.rest)?;
-        let rtype = match kind {
-            A => 1,
-            AAAA => 28,
-            PTR => 12,
-            _ => return None,
-        };
-        self.rest = &self.rest[HEAD + body.len()..];
-        Some((rtype, body))
+        loop {
+            let (kind, body) = entry(self.rest)?;
+            let rtype = match kind {
+                A => Some(1),
+                AAAA => Some(28),
+                PTR => Some(12),
+                MASK => None,
+                _ => return None,
+            };
+            self.rest = &self.rest[HEAD + body.len()..];
+            match rtype {
+                Some(rtype) if self.valid => return Some((rtype, body)),
+                Some(_) => {}
+                None => self.valid = body.first().is_some_and(|mask| mask & self.bit != 0),
+            }
+        }
     }
 }

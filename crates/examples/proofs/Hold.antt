@@ -7,7 +7,7 @@ use Rattle.names.specs.NameWalk.{nameFrom}
 use Rattle.names.specs.RecordNameWalk.{turnAt, recordNameFrom}
 use Rattle.names.specs.Folding.{folded, sameName}
 use Rattle.name_table.specs.Kinds.{kindOf}
-use Rattle.name_table.specs.Check.{isWhole, nameFills, nameForm, recordForm, maskForm, formBy, formAt, findFrom, step, from, checkTable}
+use Rattle.name_table.specs.Check.{isWhole, nameFills, nameForm, recordForm, maskFits, maskForm, formBy, formAt, findFrom, step, from, checkTable}
 use Rattle.name_table.specs.Records.{recordBy, recordAt, recordsFrom, validOn}
 use Rattle.name_table.specs.Masks.{isMask, isValid}
 use Rattle.message.specs.Header.{headerOf}
@@ -22,5 +22,5 @@ use Rattle.host.specs.Receive.{receive}
 use Rattle.examples.specs.Cases.{AllHold, repeated, cases}
 
 pub all-hold : AllHold cases
-unfolding partOf splice put sameOctets sameAddress groupOf isGroup groupEndpoint hasAddress oursAmong verdict nameFrom folded sameName kindOf isWhole nameFills nameForm recordForm maskForm isMask formBy formAt findFrom step from checkTable recordBy recordAt recordsFrom isValid validOn headerOf questionAt queryOctets takenFrom replyOctets replyWritten start dueFrom stoppedUntil tick receive repeated turnAt recordNameFrom resourceAt
+unfolding partOf splice put sameOctets sameAddress groupOf isGroup groupEndpoint hasAddress oursAmong verdict nameFrom folded sameName kindOf isWhole nameFills nameForm recordForm maskFits maskForm isMask formBy formAt findFrom step from checkTable recordBy recordAt recordsFrom isValid validOn headerOf questionAt queryOctets takenFrom replyOctets replyWritten start dueFrom stoppedUntil tick receive repeated turnAt recordNameFrom resourceAt
 all-hold = (refl, (refl, (refl, (refl, (refl, (refl, (refl, (refl, (refl, (refl, (refl, (refl, (refl, (refl, (refl, (refl, (refl, ((refl, (refl, (refl, (refl, (refl, tt))))), ((refl, (refl, (refl, (refl, tt)))), ((refl, (refl, (refl, (refl, tt)))), ((refl, (refl, (refl, (refl, tt)))), ((refl, (refl, (refl, tt))), tt))))))))))))))))))))))

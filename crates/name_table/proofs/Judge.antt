@@ -6,13 +6,13 @@ use mathlib.Core.Bool.{Bool, true, false}
 use mathlib.Core.Logic.{_⊎_, inl, inr, ⊎-elim}
 use native.Mathlib.Omega.{arith}
 use native.Mathlib.Nat.{add-zero}
-use lib.Dec.{ltb, leb, eqb}
+use lib.Dec.{leb, eqb}
 use lib.ListN.{length, getD, take, drop, length-append, take-append-drop}
 use lib.Seq.{drop-drop, take-length}
-use borrow.Author.Tests.{eq-eqb, eqb-true, eqb-false, ltb-true, ltb-false, leb-true, leb-false}
+use borrow.Author.Tests.{eq-eqb, eqb-true, eqb-false, leb-true, leb-false}
 use Rattle.octets.specs.Bounds.{usedBy4, usedBy6}
 use Rattle.octets.specs.Octets.{Octets}
-use Rattle.octets.proofs.Tests.{split}
+use Rattle.octets.proofs.Tests.{split, never}
 use Rattle.octets.proofs.Octets.{octet-at, octets-append, octets-part, part-in, length-part}
 use Rattle.names.specs.declared.NameRead.{NameRead}
 use Rattle.names.specs.declared.NameRead.the-variants.{Good as GoodName, Bad as BadName}
@@ -21,13 +21,13 @@ use Rattle.names.specs.Names.{Labels, AreLabels, IsName, NameAt, encode}
 use Rattle.names.specs.Folding.{foldedName, sameName}
 use Rattle.names.proofs.Names.{reads-a-name, finds-name, encode-some, encode-octets}
 use Rattle.names.proofs.Folding.{same-names}
-use Rattle.name_table.specs.Bounds.{mostNames, mostRecords, everywhere, entryHead}
+use Rattle.name_table.specs.Bounds.{mostNames, mostRecords, entryHead}
 use Rattle.name_table.specs.Kinds.{kindOf}
-use Rattle.name_table.specs.Masks.{isMask}
 use Rattle.name_table.specs.declared.Found.{Found}
 use Rattle.name_table.specs.declared.Found.the-variants.{At, Nothing}
-use Rattle.name_table.specs.Check.{State, Stepped, on, broken, lengthAt, kindAt, bodyAt, isWhole, lengthIs, nameFills, nameForm, recordForm, maskForm, formBy, formAt, findFrom, findName, ifNew, withName, withRecord, withMask, stepBy, step}
+use Rattle.name_table.specs.Check.{State, Stepped, on, broken, lengthAt, kindAt, bodyAt, isWhole, lengthIs, nameFills, nameForm, recordForm, maskFits, maskForm, formBy, formAt, findFrom, findName, ifNew, withName, withRecord, withMask, stepBy, step}
 use Rattle.name_table.specs.Entries.{NameKind, unique, shared, Data, a, aaaa, ptr, Entry, name, resource, mask, kind, dataOctets, body, entryOctets, names, records, New, NameRules, DataRules, MaskRules, Keeps, Breaks, cut-short, length-below-head, past-the-end, kind-zero, kind-above-6, not-a-name, not-4-octets, not-16-octets, not-1-octet, mask-zero, mask-above-15, root-name, too-many-names, equal-name, no-owner, too-many-records, located}
+use Rattle.name_table.proofs.Masks.{fits-exactly}
 use Rattle.name_table.proofs.Fold.{Whole, whole-is, stepOf, step-is}
 use Rattle.name_table.proofs.Entries.{AreNames, stateOf, located-length, after-name, after-record, after-mask, one-entry, none-stands}
 
@@ -188,30 +188,37 @@ module _ (es : List Entry) (s : List ℕ) (o : Octets s) (x : AreNames (names es
 
   -- the body of a mask is one octet from 1 to 15 or not
   judge-mask : kindAt s ≡ 6 → Judged es s (stepBy (maskForm (length (located 0 es)) (bodyAt s)) (kindAt s) (bodyAt s) (lengthAt s) (stateOf es))
-  unfolding maskForm isMask
+  unfolding maskForm
   judge-mask k =
-      split (ltb 0 (length (located 0 es)))
-      (λ f. let some : 0 < length (located 0 es) = ltb-true _ _ f in
-      split (eqb (length (bodyAt s)) 1)
-      (λ g. let one = single (bodyAt s) (eqb-true _ _ g) in
-      split (leb 1 (getD (bodyAt s) 0 0))
-      (λ h. split (leb (getD (bodyAt s) 0 0) everywhere)
-      (λ i. let m : ℕ = getD (bodyAt s) 0 0 in
-      let keeps : MaskRules es m = record { has-name = omega (arith, located-length 0 es); not-zero = leb-true _ _ h; four-bits = leb-true _ _ i } in
+      split (maskFits (length (located 0 es)) (bodyAt s))
+      (λ f. let e = fits-exactly _ _ .0 f in
+      let m : ℕ = getD (bodyAt s) 0 0 in
+      let one = single (bodyAt s) (e .1 .0) in
+      let keeps : MaskRules es m = record { has-name = omega (arith, e .0, located-length 0 es); not-zero = e .1 .1 .0; four-bits = e .1 .1 .1 } in
       let state = ap (withMask (stateOf es)) (size-is s (mask m) w one) ∙ after-mask es m in
-      taken (mask m) keeps (stands s (mask m) w one o k) (rw (f, g, h, i) (ap on state)))
-      (λ i. refused (mask-above-15 k _ one (leb-false _ _ i)) (rw (f, g, h, i))))
-      (λ h. let z : getD (bodyAt s) 0 0 < 1 = leb-false _ _ h in
-      let zero-is : getD (bodyAt s) 0 0 ≡ 0 = omega arith in
-      refused (mask-zero k (one ∙ ap (λ (m : ℕ). m ∷ []) zero-is)) (rw (f, g, h))))
-      (λ g. refused (not-1-octet k (eqb-false _ _ g)) (rw (f, g))))
-      (λ f. let none : length (located 0 es) ≤ 0 = ltb-false _ _ f in
-      refused (no-owner (omega arith) (no-names (omega arith))) (rw f))
+      taken (mask m) keeps (stands s (mask m) w one o k) (rw f (ap on state)))
+      (λ f. refused (why (λ x. never (fits-exactly _ _ .1 x) f)) (rw f))
     where
       single : (b : List ℕ) → length b ≡ 1 → b ≡ getD b 0 0 ∷ []
       single [] h = absurd (omega arith)
       single (c ∷ []) h = refl
       single (c ∷ d ∷ b) h = absurd (omega arith)
+
+      why : ((0 < length (located 0 es)) × ((length (bodyAt s) ≡ 1) × ((1 ≤ getD (bodyAt s) 0 0) × (getD (bodyAt s) 0 0 ≤ 15))) → ⊥) → Breaks es s
+      why n =
+          split (eqb (length (located 0 es)) 0)
+          (λ p. no-owner (omega arith) (no-names (eqb-true _ _ p))) λ p.
+          let some : length (located 0 es) ≡ 0 → ⊥ = eqb-false _ _ p in
+          split (eqb (length (bodyAt s)) 1)
+          (λ q. let one = single (bodyAt s) (eqb-true _ _ q) in
+          split (leb 1 (getD (bodyAt s) 0 0))
+          (λ r. split (leb (getD (bodyAt s) 0 0) 15)
+          (λ t. absurd (n (omega arith, (eqb-true _ _ q, (leb-true _ _ r, leb-true _ _ t)))))
+          (λ t. mask-above-15 k _ one (leb-false _ _ t)))
+          (λ r. let z : getD (bodyAt s) 0 0 < 1 = leb-false _ _ r in
+          let zero-is : getD (bodyAt s) 0 0 ≡ 0 = omega arith in
+          mask-zero k (one ∙ ap (λ (m : ℕ). m ∷ []) zero-is)))
+          (λ q. not-1-octet k (eqb-false _ _ q))
 
   judge-kind : Judged es s (stepOf (kindAt s) (bodyAt s) (lengthAt s) (stateOf es))
   unfolding kindOf formBy

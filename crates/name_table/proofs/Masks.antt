@@ -1,5 +1,5 @@
 -- Masks: which bit is whose; and that each record of a name has the mask of the last kind 6 before it, or 15.
-use Prim.Native.Nat.{ℕ, suc, zero, _+_, _/_, _%_, _<_}
+use Prim.Native.Nat.{ℕ, suc, zero, _+_, _/_, _%_, _<_, _≤_}
 use mathlib.Core.Path.{_≡_, refl, sym, ap, subst}
 use mathlib.Core.List.{List, [], _∷_, _++_}
 use mathlib.Core.Bool.{true, false}
@@ -7,10 +7,24 @@ use mathlib.Core.Logic.{_↔_, inl, inr}
 use native.Mathlib.Omega.{arith}
 use lib.ListN.{length, getD}
 use borrow.Author.Tests.{eq-eqb, ne-eqb, eqb-true}
-use Rattle.octets.proofs.Tests.{never}
+use Rattle.octets.specs.Octets.{octetAt}
+use Rattle.octets.proofs.Tests.{never, both-is, same-number, below-number, upto-number}
 use Rattle.names.specs.Names.{Labels}
-use Rattle.name_table.specs.Masks.{isOdd, isValid, HasBit, Valid}
+use Rattle.name_table.specs.Masks.{isMask, isOdd, isValid, HasBit, Valid}
+use Rattle.name_table.specs.Check.{maskFits}
 use Rattle.name_table.specs.Entries.{NameKind, Data, Entry, name, resource, mask, names, recordsAfter, records, Owned, leading, owned, NoMask, NoName, MaskAfter, last, none, IsNumber}
+
+-- ---- masks that a table may hold
+
+pub is-mask : (m : ℕ) → (isMask m ≡ true) ↔ ((1 ≤ m) × (m ≤ 15))
+unfolding isMask
+is-mask m = both-is _ _ (upto-number _ _) (upto-number _ _)
+
+-- An entry of kind 6 is in form exactly if a name stands before it and its body is one octet, from 1 to 15.
+pub fits-exactly : (names : ℕ) (body : List ℕ)
+    → (maskFits names body ≡ true) ↔ ((0 < names) × ((length body ≡ 1) × ((1 ≤ octetAt body 0) × (octetAt body 0 ≤ 15))))
+unfolding maskFits
+fits-exactly names body = both-is _ _ (below-number _ _) (both-is _ _ (same-number _ _) (is-mask _))
 
 -- ---- bits
 
@@ -135,3 +149,14 @@ mask-is [] between after k n d m h g = first-mask between after d m h g
 mask-is (name j l ∷ es) between after k n d m h g = mask-is es between after k n d m h g
 mask-is (resource c ∷ es) between after k n d m h g = mask-is es between after k n d m h g
 mask-is (mask l ∷ es) between after k n d m h g = mask-is es between after k n d m h g
+
+-- Whatever stands between, there is such a mask.
+pub mask-found : (between : List Entry) → (m : ℕ) × MaskAfter between m
+mask-found [] = (15, none tt refl)
+mask-found (e ∷ es) = let r = mask-found es in go e (r .0) (r .1)
+  where
+    go : (f : Entry) (m : ℕ) → MaskAfter es m → (l : ℕ) × MaskAfter (f ∷ es) l
+    go f m (last xs ys q g) = (m, last (f ∷ xs) ys (ap (λ (x : List Entry). f ∷ x) q) g)
+    go (name k n) m (none g q) = (15, none g refl)
+    go (resource d) m (none g q) = (15, none g refl)
+    go (mask l) m (none g q) = (l, last [] es refl g)

@@ -8,12 +8,11 @@ use lib.ListN.{length, take, drop, length-drop}
 use lib.Seq.{drop-drop}
 use lib.Dec.{ltb, leb, eqb}
 use borrow.Author.Tests.{lt-ltb, le-ltb, leb-true, leb-false, ltb-true, ltb-false, eqb-true, eqb-false, eq-eqb, ne-eqb}
-use Rattle.octets.specs.Octets.{octetAt, partOf}
+use Rattle.octets.specs.Octets.{partOf}
 use Rattle.octets.proofs.Tests.{split}
 use Rattle.octets.proofs.Octets.{part-in, part-rest}
 use Rattle.name_table.specs.Bounds.{longestTable, mostNames, mostRecords, entryHead}
 use Rattle.name_table.specs.Kinds.{kindOf}
-use Rattle.name_table.specs.Masks.{isMask}
 use Rattle.name_table.specs.declared.Kind.{Kind}
 use Rattle.name_table.specs.declared.Kind.the-variants.{Unique, Shared, Octets, Target, Mask, Unknown}
 use Rattle.name_table.specs.declared.Form.{Form}
@@ -21,7 +20,7 @@ use Rattle.name_table.specs.declared.Form.the-variants.{Name, Record, Ma
 use Rattle.name_table.specs.declared.Found.{Found}
 use Rattle.name_table.specs.declared.Found.the-variants.{At, Nothing}
 use Rattle.name_table.specs.declared.Table.{Table}
-use Rattle.name_table.specs.Check.{Held, State, on, broken, Checked, bad, good, namesIn, checkedBy, lengthAt, kindAt, bodyAt, isWhole, wholeLength, nameFills, nameForm, recordForm, maskForm, formBy, formAt, findName, ifNew, withName, withRecord, withMask, stepBy, step, checkFrom, checkTable}
+use Rattle.name_table.specs.Check.{Held, State, on, broken, Checked, bad, good, namesIn, checkedBy, lengthAt, kindAt, bodyAt, isWhole, wholeLength, nameFills, nameForm, recordForm, maskFits, maskForm, formBy, formAt, findName, ifNew, withName, withRecord, withMask, stepBy, step, checkFrom, checkTable}
 use Rattle.name_table.specs.Shown.{heldFrom, namesOf, tableOf, empty, readBy, tableRead, settled, shown}
 use Rattle.name_table.proofs.Fold.{Whole, whole-is, some-whole, none-whole, whole-length, turn-on, turn-end, turn-off, shorter, fuel}
 use Rattle.name_table.proofs.Shown.{added, names-added, names-length, table-added, rows}
@@ -73,11 +72,8 @@ no-record-name names records b e =
 no-mask-name : (names : ℕ) (b : List ℕ) → maskForm names b ≡ Name → ⊥
 unfolding maskForm
 no-mask-name names b e =
-    split (ltb 0 names)
-    (λ f. split (eqb (length b) 1)
-    (λ g. split (isMask (octetAt b 0)) (λ h. let z : _≡_ {A = ℕ} 0 1 = cc (rw (f, g, h) at e) in omega arith)
-    (λ h. let z : _≡_ {A = ℕ} 0 1 = cc (rw (f, g, h) at e) in omega arith))
-    (λ g. let z : _≡_ {A = ℕ} 0 1 = cc (rw (f, g) at e) in omega arith))
+    split (maskFits names b)
+    (λ f. let z : _≡_ {A = ℕ} 0 1 = cc (rw f at e) in omega arith)
     (λ f. let z : _≡_ {A = ℕ} 0 1 = cc (rw f at e) in omega arith)
 
 kind-room : (k : Kind) (names records : ℕ) (b : List ℕ) → formBy k names records b ≡ Name → names < mostNames

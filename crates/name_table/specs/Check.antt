@@ -66,14 +66,11 @@ recordForm names records body =
     Bad
 
 -- A mask's entry, kind 6, is in form if a name stands before it, and its body is one octet, which is a mask.
+unfoldable pub maskFits : ℕ → List ℕ → Bool
+maskFits names body = ltb 0 names and eqb (length body) 1 and isMask (octetAt body 0)
+
 unfoldable pub maskForm : ℕ → List ℕ → Form
-maskForm names body =
-    cond (ltb 0 names)
-    (cond (eqb (length body) 1)
-    (cond (isMask (octetAt body 0)) Mask
-    Bad)
-    Bad)
-    Bad
+maskForm names body = cond (maskFits names body) Mask Bad
 
 unfoldable pub formBy : Kind → ℕ → ℕ → List ℕ → Form
 formBy Unique names records body = nameForm names body

@@ -95,11 +95,12 @@ fn close_name(random: &mut Random, name: &[u8]) -> Vec<u8> {
     close
 }
 
-/// One more record, unless the table would then pass `most` octets.
+/// One more record, or a mask for those after it, unless the table would then pass `most` octets.
 fn put_record(random: &mut Random, table: &mut Vec<u8>, most: usize) {
-    let (kind, body) = match random.below(3) {
+    let (kind, body) = match random.below(4) {
         0 => (3, random.octets(4)),
         1 => (4, random.octets(16)),
+        2 => (6, vec![random.between(1, 15) as u8]),
         _ if random.chance(1, 4) => (5, vec![0]),
         _ => (5, random_name(random)),
     };

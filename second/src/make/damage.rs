@@ -1,7 +1,7 @@
 //! Damaged name tables: each kind of fault that makes a table bad, put into a good one.
 
-use super::names;
-use super::tables::{entry, Record, Table};
+use super::tables::{entry, Record, Table, A};
+use super::{masks, names};
 use crate::random::Random;
 
 /// The offsets of a good table's entries.
@@ -43,7 +43,7 @@ fn damaged_field(random: &mut Random, octets: &mut [u8]) {
 fn ill_bodied(random: &mut Random, pool: &[Vec<u8>]) -> Vec<u8> {
     let name = pool[random.below(pool.len())].clone();
     let kind = random.pick(&[1, 2, 5]);
-    match random.below(7) {
+    match random.below(10) {
         0 => {
             let length = random.pick(&[0, 3, 5, 16]);
             entry(3, &random.octets(length))
@@ -56,15 +56,16 @@ fn ill_bodied(random: &mut Random, pool: &[Vec<u8>]) -> Vec<u8> {
         3 => entry(kind, &name[..name.len() - 1]),
         4 => entry(random.pick(&[1, 2]), &[0]),
         5 => entry(kind, &[]),
-        _ => entry(kind, &names::bad(random, &name)),
+        6 => entry(kind, &names::bad(random, &name)),
+        _ => masks::bad(random),
     }
 }
 
 /// An entry that is good by itself but not at every place of a table.
 fn ill_placed(random: &mut Random, pool: &[Vec<u8>], table: &Table, octets: &mut Vec<u8>) {
-    match random.below(5) {
+    match random.below(6) {
         0 => {
-            let record = entry(3, &random.octets(4));
+            let record = entry(A, &random.octets(4));
             octets.splice(0..0, record);
         }
         1 if !table.names.is_empty() => {
@@ -85,18 +86,24 @@ fn ill_placed(random: &mut Random, pool: &[Vec<u8>], table: &Table, octets: &mut
                 octets.extend(entry(1, &names::join(&[vec![b'#', number as u8]])));
             }
         }
+        4 => {
+            let mask = masks::mask(random);
+            octets.splice(0..0, entry(mask.kind, &mask.data));
+        }
         _ => *octets = with_many_records(random, pool, table),
     }
 }
 
-/// The table with one name that has 24 records, which is good, or more, which is bad.
+/// The table with one name that has 24 records, which is good, or more, which is bad; with masks or without.
 fn with_many_records(random: &mut Random, pool: &[Vec<u8>], table: &Table) -> Vec<u8> {
     let mut table = if table.names.is_empty() { Table::read(&entry(1, &pool[0])) } else { table.clone() };
     let place = random.below(table.names.len());
-    let count = random.pick(&[24, 25, 25, 26]);
-    while table.names[place].records.len() < count {
-        let data = random.octets(4);
-        table.names[place].records.push(Record { kind: 3, data });
+    let records = &mut table.names[place].records;
+    for _ in masks::count_records(records)..random.pick(&[24, 25, 25, 26]) {
+        records.push(Record { kind: A, data: random.octets(4) });
+    }
+    if random.chance(1, 2) {
+        masks::sprinkle(random, records);
     }
     table.octets()
 }

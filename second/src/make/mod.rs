@@ -10,6 +10,7 @@ mod draft;
 mod ends;
 mod host;
 mod lookups;
+mod masks;
 mod memory;
 mod names;
 pub mod pairs;

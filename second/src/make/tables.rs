@@ -1,14 +1,16 @@
 //! Good name tables for random call files: fresh ones, small changes of the last one, replies that fill 512 octets to
 //! the octet, and tables of nearly 4,096 octets.
 
-use super::names;
+use super::{masks, names};
 use crate::random::Random;
 
 pub const LARGEST: usize = 4096;
-const A: u16 = 3;
-const AAAA: u16 = 4;
+pub const MOST_RECORDS: usize = 24;
+pub const A: u16 = 3;
+pub const AAAA: u16 = 4;
 const PTR: u16 = 5;
 
+/// A record, or a mask for the records after it.
 #[derive(Clone)]
 pub struct Record {
     pub kind: u16,
@@ -19,6 +21,7 @@ pub struct Record {
 pub struct Name {
     pub shared: bool,
     pub name: Vec<u8>,
+    /// With the masks between them.
     pub records: Vec<Record>,
 }
 
@@ -115,7 +118,7 @@ fn filling(random: &mut Random, name: usize, total: usize) -> Vec<Record> {
     if left == 13 || left > 14 {
         records.push(Record { kind: PTR, data: names::of_length(random, left - 12) });
     }
-    for _ in 0..random.below(3).min(24 - records.len().min(24)) {
+    for _ in 0..random.below(3).min(MOST_RECORDS.saturating_sub(records.len())) {
         records.push(Record { kind: PTR, data: vec![0] });
     }
     records
@@ -139,7 +142,7 @@ fn large(random: &mut Random, pool: &[Vec<u8>]) -> Table {
         if table.names.is_empty() || table.names.len() < 8 && random.chance(1, 12) {
             table.add(random, pool, Vec::new());
         }
-        let full = table.names.last().is_none_or(|last| last.records.len() >= 23);
+        let full = table.names.last().is_none_or(|last| masks::count_records(&last.records) >= 23);
         if full && table.names.len() < 8 {
             table.add(random, pool, Vec::new());
         } else if full {
@@ -148,6 +151,9 @@ fn large(random: &mut Random, pool: &[Vec<u8>]) -> Table {
         let length = random.between(60, 255);
         let data = names::of_length(random, length);
         if let Some(last) = table.names.last_mut() {
+            if random.chance(1, 8) {
+                last.records.push(masks::mask(random));
+            }
             last.records.push(Record { kind: PTR, data });
         }
     }
@@ -170,10 +176,13 @@ pub fn fresh(random: &mut Random, pool: &[Vec<u8>]) -> Table {
     }
     let count = random.pick(&[1, 1, 2, 3, 4, 5, 6, 7, 8, 8]);
     for _ in 0..count {
-        let records = match random.below(12) {
+        let mut records = match random.below(12) {
             0 => many(random, pool),
             _ => some_records(random, pool),
         };
+        if random.chance(1, 2) {
+            masks::put(random, &mut records);
+        }
         table.add(random, pool, records);
     }
     if random.chance(1, 3) {
@@ -188,7 +197,10 @@ fn fill_one(random: &mut Random, table: &mut Table) {
         let total = random.pick(&[500, 511, 512, 512, 512, 513, 514, 525]);
         let length = table.names[place].name.len();
         let mut records = filling(random, length, total);
-        records.truncate(24);
+        records.truncate(MOST_RECORDS);
+        if random.chance(1, 2) {
+            masks::put_elsewhere(random, &mut records);
+        }
         table.names[place].records = records;
     }
 }
@@ -200,7 +212,7 @@ pub fn changed(random: &mut Random, pool: &[Vec<u8>], table: &Table) -> Table {
         return fresh(random, pool);
     }
     let place = random.below(table.names.len());
-    match random.below(10) {
+    match random.below(13) {
         0 | 1 => table.names[place].shared ^= true,
         2 => drop(table.names.remove(place)),
         3 => {
@@ -222,7 +234,8 @@ pub fn changed(random: &mut Random, pool: &[Vec<u8>], table: &Table) -> Table {
         }
         7 => fill_one(random, &mut table),
         8 => table.names[place].records = many(random, pool),
-        _ => table.names[place].records = some_records(random, pool),
+        9 => table.names[place].records = some_records(random, pool),
+        _ => masks::change(random, &mut table.names[place].records),
     }
     table
 }

@@ -140,7 +140,8 @@ fn data_lacks(rest: &[u8]) -> Option<isize> {
     Some(10 + isize::from(fixed[8]) * 256 + isize::from(fixed[9]) - rest.len() as isize)
 }
 
-fn chosen(named: &[(&'static str, bool)]) -> Vec<&'static str> {
+/// The words of what is so.
+pub fn chosen(named: &[(&'static str, bool)]) -> Vec<&'static str> {
     named.iter().filter(|(_, is)| *is).map(|(name, _)| *name).collect()
 }
 

@@ -1,5 +1,5 @@
 -- `name_table::mask_form` meets its contract.
-use Rattle.name_table.specs.Check.{maskForm}
+use Rattle.name_table.specs.Check.{maskFits, maskForm}
 use borrow.Author.Tests.{lt-ltb, le-ltb, eq-eqb, ne-eqb}
 use mathlib.Core.Path.{sym, _∙_}
 use borrow.Author.Needs.{needs}
@@ -13,23 +13,23 @@ is-mask-requires : tie.Need-is-mask-requires
 is-mask-requires c κs = search needs
 
 returns : tie.Need-returns
-unfolding maskForm
+unfolding maskForm maskFits
 returns c =
     let o = c .before .before .before in
     rw (lt-ltb _ _ (o .before .if1 .taken), eq-eqb _ _ (o .if2 .taken), ← c .before .before .octet .ensures, sym (c .before .is-mask .ensures) ∙ c .if3 .taken)
 
 returns-2 : tie.Need-returns-2
-unfolding maskForm
+unfolding maskForm maskFits
 returns-2 c =
     let o = c .before .before .before in
     rw (lt-ltb _ _ (o .before .if1 .taken), eq-eqb _ _ (o .if2 .taken), ← c .before .before .octet .ensures, sym (c .before .is-mask .ensures) ∙ c .if3 .left)
 
 returns-3 : tie.Need-returns-3
-unfolding maskForm
+unfolding maskForm maskFits
 returns-3 c = rw (lt-ltb _ _ (c .before .if1 .taken), ne-eqb _ _ (c .if2 .left))
 
 returns-4 : tie.Need-returns-4
-unfolding maskForm
+unfolding maskForm maskFits
 returns-4 c = rw (le-ltb _ _ (c .if1 .left))
 
 pub mask-form-spec : {M : Type 1} → statement M
