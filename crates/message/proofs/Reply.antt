@@ -19,7 +19,7 @@ use Rattle.name_table.specs.Entries.{Answer}
 use Rattle.name_table.specs.Records.{recordAt, Masked, recordsUnder, validOn, answerIn}
 use Rattle.name_table.specs.declared.Record.{Record}
 use Rattle.name_table.specs.declared.RecordRead.the-variants.{Good, Mask, End}
-use Rattle.name_table.proofs.Records.{read-is-inside, records-turn}
+use Rattle.name_table.proofs.Records.{read-is-inside, records-on, records-mask, records-end}
 use Rattle.message.specs.declared.Answers.{Answers}
 use Rattle.message.specs.declared.ReplyHead.{ReplyHead}
 use Rattle.message.specs.Bounds.{headerOctets, classIN, replyTTL, beforeData}
@@ -163,29 +163,24 @@ abbrev pub answersUnder : ℕ → List ℕ → ℕ → ℕ → List Answer
 answersUnder i table m p = map (answerIn table) (validOn i (recordsUnder table m p))
 
 module _ (i : ℕ) (table : List ℕ) (m p : ℕ) where
+  abbrev shown : List Masked → List Answer
+  shown rs = map (answerIn table) (validOn i rs)
+
   pub answers-on : (r : Record) → recordAt table p ≡ Good r → isValid m i ≡ true
       → answersUnder i table m p ≡ answerIn table r ∷ answersUnder i table m (r .end)
   unfolding validOn
-  answers-on r e v =
-      let q : recordsUnder table m p ≡ record { valid = m; held = r } ∷ recordsUnder table m (r .end) = records-turn table m p ∙ rw e in
-      ap (λ (x : List Masked). map (answerIn table) (validOn i x)) q ∙ rw v
+  answers-on r e v = ap shown (records-on table m p r e) ∙ rw v
 
   pub answers-off : (r : Record) → recordAt table p ≡ Good r → isValid m i ≡ false → answersUnder i table m p ≡ answersUnder i table m (r .end)
   unfolding validOn
-  answers-off r e v =
-      let q : recordsUnder table m p ≡ record { valid = m; held = r } ∷ recordsUnder table m (r .end) = records-turn table m p ∙ rw e in
-      ap (λ (x : List Masked). map (answerIn table) (validOn i x)) q ∙ rw v
+  answers-off r e v = ap shown (records-on table m p r e) ∙ rw v
 
   pub answers-mask : (l end : ℕ) → recordAt table p ≡ Mask l end → answersUnder i table m p ≡ answersUnder i table l end
-  answers-mask l end e =
-      let q : recordsUnder table m p ≡ recordsUnder table l end = records-turn table m p ∙ rw e in
-      ap (λ (x : List Masked). map (answerIn table) (validOn i x)) q
+  answers-mask l end e = ap shown (records-mask table m p l end e)
 
   pub answers-end : recordAt table p ≡ End → answersUnder i table m p ≡ []
   unfolding validOn
-  answers-end e =
-      let q : recordsUnder table m p ≡ [] = records-turn table m p ∙ rw e in
-      ap (λ (x : List Masked). map (answerIn table) (validOn i x)) q
+  answers-end e = ap shown (records-end table m p e)
 
 -- The answers so far stand in the buffer, which was `before`, after the octets used; those that are still to be taken are the ones
 -- that are taken of the rest, which the table holds from p on, under a mask that is valid here or not.

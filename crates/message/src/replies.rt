@@ -139,7 +139,8 @@ fn put_answers(
 }
 
 // Writes a reply: the question's octets as received, then the records of a name that its type asks for and that are valid on the
-// interface, from an offset of the table on, as many as the limit lets in. Gives its length; nothing is written, and the length is 0, where there is no room.
+// interface, from an offset of the table on, as many as the limit lets in. Gives its length; nothing is written, and the length is 0,
+// where there is no room.
 pub fn write_reply(
     out: &mut [u8],
     limit: u16,

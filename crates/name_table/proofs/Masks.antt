@@ -114,7 +114,8 @@ counts n (name k l ∷ es) u = absurd u
 counts n (resource e ∷ es) u = omega (arith, counts (n + 1) es u, counts 1 es u)
 counts n (mask l ∷ es) u = counts n es u
 
-one-more : {os : List Owned} {j i : ℕ} {o : Owned} (c : Owned) → IsNumber os j o → i ≡ 1 + j → IsNumber (c ∷ os) i o
+-- a record more before
+pub one-more : {os : List Owned} {j i : ℕ} {o : Owned} (c : Owned) → IsNumber os j o → i ≡ 1 + j → IsNumber (c ∷ os) i o
 one-more c r e =
     record { earlier = c ∷ r .earlier; later = r .later; are = ap (λ (t : List Owned). c ∷ t) (r .are); number = omega (arith, r .number) }
 

@@ -84,6 +84,16 @@ records-turn s m at = go (recordAt s at) (read-inside s at)
     go (Mask l end) i = records-fuel (length s) (suc (length s)) s l end (omega arith) (omega arith)
     go End i = refl
 
+module _ (s : List ℕ) (m at : ℕ) where
+  pub records-on : (r : Record) → recordAt s at ≡ Good r → recordsUnder s m at ≡ record { valid = m; held = r } ∷ recordsUnder s m (r .end)
+  records-on r e = records-turn s m at ∙ rw e
+
+  pub records-mask : (l end : ℕ) → recordAt s at ≡ Mask l end → recordsUnder s m at ≡ recordsUnder s l end
+  records-mask l end e = records-turn s m at ∙ rw e
+
+  pub records-end : recordAt s at ≡ End → recordsUnder s m at ≡ []
+  records-end e = records-turn s m at ∙ rw e
+
 -- an entry that stands after the octets b, and before r
 module _ (s b : List ℕ) (e : Entry) (r : List ℕ) (q : s ≡ b ++ (entryOctets e ++ r)) where
   rest-is : drop (length b) s ≡ entryOctets e ++ r
@@ -218,16 +228,10 @@ module _ (s : List ℕ) (t : GoodTable s) (k : ℕ) (h : k < length (names (t .e
 
 -- a turn of the loop that counts records
 pub count-on : (s : List ℕ) (m at : ℕ) (r : Record) → recordAt s at ≡ Good r → length (recordsUnder s m at) ≡ 1 + length (recordsUnder s m (r .end))
-count-on s m at r e =
-    let q : recordsUnder s m at ≡ record { valid = m; held = r } ∷ recordsUnder s m (r .end) = records-turn s m at ∙ rw e in
-    ap length q ∙ omega arith
+count-on s m at r e = ap length (records-on s m at r e) ∙ omega arith
 
 pub count-mask : (s : List ℕ) (m at l end : ℕ) → recordAt s at ≡ Mask l end → length (recordsUnder s m at) ≡ length (recordsUnder s l end)
-count-mask s m at l end e =
-    let q : recordsUnder s m at ≡ recordsUnder s l end = records-turn s m at ∙ rw e in
-    ap length q
+count-mask s m at l end e = ap length (records-mask s m at l end e)
 
 pub count-end : (s : List ℕ) (m at : ℕ) → recordAt s at ≡ End → length (recordsUnder s m at) ≡ 0
-count-end s m at e =
-    let q : recordsUnder s m at ≡ [] = records-turn s m at ∙ rw e in
-    ap length q
+count-end s m at e = ap length (records-end s m at e)

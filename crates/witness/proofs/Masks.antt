@@ -1,5 +1,5 @@
 -- Every record of a reply has the bit of the interface asked. A table without kind 6 is answered as it was, octet by octet.
-use Prim.Native.Nat.{ℕ, suc, _+_, _<_}
+use Prim.Native.Nat.{ℕ, _+_, _<_}
 use mathlib.Core.Path.{_≡_, refl, ap, _∙_, subst}
 use mathlib.Core.List.{List, [], _∷_, _++_, map}
 use lib.ListN.{length}
@@ -9,12 +9,12 @@ use Rattle.octets.specs.Octets.{Octets, partOf}
 use Rattle.octets.proofs.Tests.{split}
 use Rattle.name_table.specs.Masks.{isValid}
 use Rattle.name_table.specs.Check.{Held, good, checkTable, nameIn}
-use Rattle.name_table.specs.Entries.{Data, Entry, Owned, IsNumber, validFor}
+use Rattle.name_table.specs.Entries.{Data, Entry, Owned, validFor}
 use Rattle.name_table.specs.Records.{recordsOf, validOn, answerIn}
 use Rattle.name_table.specs.declared.Record.{Record}
 use Rattle.name_table.specs.Before.{checkBefore, recordsBefore}
 use Rattle.name_table.proofs.Held.{found-below}
-use Rattle.name_table.proofs.Masks.{valid-exactly, everywhere-valid}
+use Rattle.name_table.proofs.Masks.{valid-exactly, everywhere-valid, one-more}
 use Rattle.name_table.proofs.Before.{good-before, records-before}
 use Rattle.message.specs.Reply.{replyWritten}
 use Rattle.message.specs.declared.Question.{Question}
@@ -28,14 +28,10 @@ use Rattle.witness.specs.Replies.{typeOf, askedFor, masked, AllValid, Re
 
 -- ---- the interface's bit
 
-later : {os : List Owned} {j : ℕ} {o : Owned} (c : Owned) → IsNumber os j o → IsNumber (c ∷ os) (suc j) o
-later c r =
-    record { earlier = c ∷ r .earlier; later = r .later; are = ap (λ (x : List Owned). c ∷ x) (r .are); number = ap suc (r .number) }
-
 -- of a longer list of records
 longer : (i : ℕ) (c : Owned) (os : List Owned) (ds : List Data) → AllValid i os ds → AllValid i (c ∷ os) ds
 longer i c os [] v = tt
-longer i c os (d ∷ ds) v = ((v .0 .0, suc (v .0 .1), later c (v .0 .2), v .0 .3), longer i c os ds (v .1))
+longer i c os (d ∷ ds) v = ((v .0 .0, 1 + v .0 .1, one-more c (v .0 .2) refl, v .0 .3), longer i c os ds (v .1))
 
 all-valid : (i : ℕ) (os : List Owned) → AllValid i os (validFor i os)
 all-valid i [] = tt
