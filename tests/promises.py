@@ -160,12 +160,12 @@ class Check:
         code, function = call.split("::")
         meaning, file, name = re.split("[/ ]", definition)
         source = (CRATES / code / "src" / "lib.rt").read_text(encoding="utf-8")
-        contract = re.search(rf"pub fn {function}\(.*?\n    ensures {{ λ r\. ⌜ doneBy r .*? ≡ (\w+) [^\n]*\n{{", source, re.S)
-        used = re.search(rf"ghost use Rattle·{meaning}\.specs\.{file}\.{{[^}}]*\b{name}(?: as (\w+))?[,}}]", source)
+        contract = re.search(rf"pub fn {function}\(.*?\n    ensures {{ done_by result .*? ≡ (\w+) [^\n]*\n{{", source, re.S)
+        used = re.search(rf"ghost use Rattle\.{meaning}\.specs\.{file}\.{{[^}}]*\b{name}(?: as (\w+))?[,}}]", source)
         if not contract or not used or contract.group(1) != (used.group(1) or name):
             self.wrong(line, f"the ensures of {call} is no equation with {definition}")
         link = LINK.read_text(encoding="utf-8")
-        if meaning == "host" and not re.search(rf"use Rattle·host\.specs\.{file}\.{{[^}}]*\b{name}\b", link):
+        if meaning == "host" and not re.search(rf"use Rattle\.host\.specs\.{file}\.{{[^}}]*\b{name}\b", link):
             self.wrong(line, f"{LINK.name} does not name {definition}")
         self.pairs.add(call)
 

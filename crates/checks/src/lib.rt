@@ -1,5 +1,6 @@
 // The checks that the calls of a host and of a lookup share: the interface, the clock, and what a datagram says. They are defined in the
 // crate host.
+#![tactic(auto)]
 ghost use Rattle.std.specs.Prelude.{◌≡◌, true, ◌<◌};
 ghost use Rattle.octets.specs.Bounds.{interfaces};
 ghost use Rattle.host.specs.Early.{no_interface, bad_clock};
@@ -58,7 +59,7 @@ fn read_header(datagram: &[u8]) -> HeaderRead
 }
 
 // A refusal; or none, with the question.
-#[derive(Drop)]
+#[derive(Clone, Copy)]
 struct MessageRead {
     refused: bool,
     refusal: Refusal,
@@ -167,7 +168,7 @@ fn read_message(family: u8, source: u8, to: Address, header: Header, datagram: &
 }
 
 // A datagram: a refusal; or none, with its header and question.
-#[derive(Drop)]
+#[derive(Clone, Copy)]
 pub struct Datagram {
     pub refused: bool,
     pub refusal: Refusal,

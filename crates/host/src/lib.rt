@@ -1,5 +1,6 @@
 // The host: what it may call itself on each interface, and what a call gives. What the calls do is defined in specs/; their code
 // stands in the crate responder.
+#![tactic(auto)]
 ghost use Rattle.std.specs.Prelude.{◌≡◌};
 ghost use Rattle.host.specs.State.{interval_of, four_settings};
 ghost use Rattle.host.specs.Outcomes.{nowhere as zero_endpoint};
@@ -9,7 +10,7 @@ use octets::{Address, Endpoint, Setting};
 use refusal::Refusal;
 
 // When a name's timer runs out, in milliseconds.
-#[derive(Drop)]
+#[derive(Clone, Copy)]
 pub struct Timer {
     pub due: u64,
 }
@@ -41,7 +42,7 @@ impl Timer {
 
 // The state of a name on an interface. Off is the zero value. Document 01's checking is Verifying; to hold a name is Unique or
 // Defending. A stopped name is not tried again until a time.
-#[derive(Drop)]
+#[derive(Clone, Copy)]
 pub enum NameState {
     Off,
     Verifying {
@@ -63,7 +64,7 @@ pub enum NameState {
 }
 
 // A name's state, held in a struct: it stands in for an array of enums.
-#[derive(Drop)]
+#[derive(Clone, Copy)]
 pub struct Name {
     pub state: NameState,
 }
@@ -72,20 +73,20 @@ impl Name {
     pub const COUNT: usize = 8;
 }
 
-#[derive(Drop)]
+#[derive(Clone, Copy)]
 pub struct Interface {
     pub setting: Setting,
     pub names: [Name; Name::COUNT],
 }
 
-#[derive(Drop)]
+#[derive(Clone, Copy)]
 pub struct Host {
     pub interfaces: [Interface; Setting::COUNT],
     pub clock: u64,
 }
 
 // What a call comes to.
-#[derive(Drop)]
+#[derive(Clone, Copy)]
 pub enum Outcome {
     Refused(Refusal),
     Ready,
@@ -99,7 +100,7 @@ pub enum Outcome {
 }
 
 // What a call returns: the state, the outcome, and where the octets written are to be sent; all zero where nothing is.
-#[derive(Drop)]
+#[derive(Clone, Copy)]
 pub struct Step {
     pub host: Host,
     pub outcome: Outcome,

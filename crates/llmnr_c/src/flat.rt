@@ -16,7 +16,7 @@ use responder::served::Served;
 
 // A name: the number of its state, and of a state with data these; all else is zero. A stopped name is due when it may be tried again.
 #[repr(C)]
-#[derive(Drop)]
+#[derive(Clone, Copy)]
 pub struct FlatName {
     pub state: u8,
     pub sends: u8,
@@ -42,19 +42,19 @@ impl FlatName {
 
 // The names of an interface, in the table's order.
 #[repr(C)]
-#[derive(Drop)]
+#[derive(Clone, Copy)]
 pub struct FlatNames {
     pub names: [FlatName; Name::COUNT],
 }
 
 #[repr(C)]
-#[derive(Drop)]
+#[derive(Clone, Copy)]
 pub struct FlatSettings {
     pub interfaces: [Setting; Setting::COUNT],
 }
 
 #[repr(C)]
-#[derive(Drop)]
+#[derive(Clone, Copy)]
 pub struct FlatHost {
     pub settings: FlatSettings,
     pub interfaces: [FlatNames; Setting::COUNT],
@@ -62,7 +62,7 @@ pub struct FlatHost {
 }
 
 #[repr(C)]
-#[derive(Drop)]
+#[derive(Clone, Copy)]
 pub struct FlatSetUp {
     pub host: FlatHost,
     pub outcome: FlatOutcome,
@@ -71,7 +71,7 @@ pub struct FlatSetUp {
 // What a call comes to on an interface: the clock; the name that the outcome tells, if it has a new state, else all zero; the outcome; where to
 // send; and whether a name has a new state.
 #[repr(C)]
-#[derive(Drop)]
+#[derive(Clone, Copy)]
 pub struct FlatStep {
     pub clock: u64,
     pub name: FlatName,

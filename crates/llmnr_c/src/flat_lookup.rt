@@ -12,7 +12,7 @@ use octets::{Endpoint, Setting};
 
 // A lookup: the number of its phase, and of a phase with data these; what the phase does not use is zero.
 #[repr(C)]
-#[derive(Drop)]
+#[derive(Clone, Copy)]
 pub struct FlatLookup {
     pub settings: [Setting; Setting::COUNT],
     pub interface: usize,
@@ -36,7 +36,7 @@ impl FlatLookup {
 
 // What a start comes to.
 #[repr(C)]
-#[derive(Drop)]
+#[derive(Clone, Copy)]
 pub struct FlatLookupStart {
     pub lookup: FlatLookup,
     pub outcome: FlatOutcome,
@@ -45,7 +45,7 @@ pub struct FlatLookupStart {
 
 // What a later call comes to: the clock and the phase of the lookup after it.
 #[repr(C)]
-#[derive(Drop)]
+#[derive(Clone, Copy)]
 pub struct FlatLookupStep {
     pub clock: u64,
     pub due: u64,

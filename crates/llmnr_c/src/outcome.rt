@@ -11,7 +11,7 @@ use refusal::Refusal;
 // The number of what a call says; with a refusal its number, and its offset if it has one; of a response where its answers begin, and how
 // many there are; the number of a name; the octets written.
 #[repr(C)]
-#[derive(Drop)]
+#[derive(Clone, Copy)]
 pub struct FlatOutcome {
     pub what: u8,
     pub refusal: u8,

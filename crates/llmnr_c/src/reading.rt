@@ -9,7 +9,7 @@ use name_table::Table;
 
 // A record: type, class, TTL in seconds, where its data stands, and where the next record begins. All zero where there is none.
 #[repr(C)]
-#[derive(Drop)]
+#[derive(Clone, Copy)]
 pub struct FlatRecord {
     pub good: bool,
     pub rtype: u16,
@@ -22,7 +22,7 @@ pub struct FlatRecord {
 
 // How many names a good table has; of a bad one the offset of its first bad entry.
 #[repr(C)]
-#[derive(Drop)]
+#[derive(Clone, Copy)]
 pub struct FlatTable {
     pub good: bool,
     pub names: usize,

@@ -1,5 +1,6 @@
 // A lookup: what it asks for, how far it is, and what a call of it gives. What the calls do is defined in specs/; their code stands in the
 // crate querier.
+#![tactic(auto)]
 ghost use Rattle.std.specs.Prelude.{◌≡◌};
 ghost use Rattle.lookup.specs.State.{ended_lookup};
 
@@ -9,7 +10,7 @@ use octets::{Address, Endpoint, Setting};
 use refusal::Refusal;
 
 // How far a lookup is: it asks, it collects the responses of several hosts that share the name, or it is over.
-#[derive(Drop)]
+#[derive(Clone, Copy)]
 pub enum Phase {
     Asking { sends: u8, timer: Timer },
     Collecting { timer: Timer },
@@ -18,7 +19,7 @@ pub enum Phase {
 
 // The settings of the host's interfaces and the number of the one that it asks on; the name, its octets, type and ID of its query; the
 // last accepted time.
-#[derive(Drop)]
+#[derive(Clone, Copy)]
 pub struct Lookup {
     pub settings: [Setting; Setting::COUNT],
     pub interface: usize,
@@ -31,7 +32,7 @@ pub struct Lookup {
 }
 
 // What a call comes to. With a response: the offset where its answers begin, and how many there are.
-#[derive(Drop)]
+#[derive(Clone, Copy)]
 pub enum Outcome {
     Refused(Refusal),
     Quiet,
@@ -43,7 +44,7 @@ pub enum Outcome {
 }
 
 // What a call returns: the lookup, the outcome, and where the octets written are to be sent; all zero where nothing is.
-#[derive(Drop)]
+#[derive(Clone, Copy)]
 pub struct Step {
     pub lookup: Lookup,
     pub outcome: Outcome,

@@ -1,4 +1,5 @@
 // Messages: header, question and resource records, read; queries, written. Replies are written in replies.rt.
+#![tactic(auto)]
 ghost use Rattle.std.specs.Prelude.{◌≡◌, [], ◌+◌, ◌<◌, ◌≤◌, length};
 ghost use Rattle.octets.specs.Octets.{put, splice};
 ghost use Rattle.message.specs.Bounds.{header_octets};
@@ -10,7 +11,7 @@ ghost use Rattle.message.specs.Query.{query_octets};
 pub mod replies;
 
 // The header of a message. RFC 4795's C is the conflict flag, T the tentative flag.
-#[derive(Drop)]
+#[derive(Clone, Copy)]
 pub struct Header {
     pub id: u16,
     pub response: bool,
@@ -29,7 +30,7 @@ impl Header {
     pub const OCTETS: usize = 12;
 }
 
-#[derive(Drop)]
+#[derive(Clone, Copy)]
 pub enum HeaderRead {
     Good(Header),
     Short,
@@ -73,7 +74,7 @@ pub fn read_header(s: &[u8]) -> HeaderRead
 }
 
 // A question: the octets of its name and its labels, its type and class, and the offset after it.
-#[derive(Drop)]
+#[derive(Clone, Copy)]
 pub struct Question {
     pub name: usize,
     pub labels: usize,
@@ -82,7 +83,7 @@ pub struct Question {
     pub end: usize,
 }
 
-#[derive(Drop)]
+#[derive(Clone, Copy)]
 pub enum QuestionRead {
     Good(Question),
     Bad,
@@ -111,7 +112,7 @@ pub fn read_question(s: &[u8], at: usize) -> QuestionRead
 
 // A resource record: its owner name, type, class, TTL in seconds, octets of data, where the data stands, and where the next
 // record begins.
-#[derive(Drop)]
+#[derive(Clone, Copy)]
 pub struct ResourceRecord {
     pub owner: names::RecordName,
     pub rtype: u16,
@@ -140,7 +141,7 @@ impl ResourceRecord {
     pub const TOP_BIT: u32 = 2147483648;
 }
 
-#[derive(Drop)]
+#[derive(Clone, Copy)]
 pub enum RecordRead {
     Good(ResourceRecord),
     Bad,
@@ -174,7 +175,7 @@ pub fn read_record(s: &[u8], at: usize) -> RecordRead
 }
 
 // Where a walk over records ends: after the last, or at the first bad one.
-#[derive(Drop)]
+#[derive(Clone, Copy)]
 pub enum Walked {
     End(usize),
     Stopped(usize),
@@ -246,7 +247,7 @@ pub fn write_name_query(
 }
 
 // The head of a reply: the query's ID, and whether C and T are set.
-#[derive(Drop)]
+#[derive(Clone, Copy)]
 pub struct ReplyHead {
     pub id: u16,
     pub conflict: bool,
@@ -254,7 +255,7 @@ pub struct ReplyHead {
 }
 
 // Where the answers end, how many there are, and whether one was left out.
-#[derive(Drop)]
+#[derive(Clone, Copy)]
 pub struct Answers {
     pub end: usize,
     pub count: u16,

@@ -1,4 +1,5 @@
 // The name table: its check and its names. The records of a name are read in resources.rt.
+#![tactic(auto)]
 ghost use Rattle.std.specs.Prelude.{◌≡◌, false, List, ℕ, ◌≤◌, min, length, eqb};
 ghost use Rattle.name_table.specs.Bounds.{longest_table, most_names};
 ghost use Rattle.name_table.specs.Kinds.{kind_of};
@@ -10,7 +11,7 @@ pub mod resources;
 
 // What an entry's kind says of its body: a unique or a shared name, a record's data of so many octets, a record's target, which is a
 // name, or the mask of the records after it.
-#[derive(Drop)]
+#[derive(Clone, Copy)]
 pub enum Kind {
     Unique,
     Shared,
@@ -21,7 +22,7 @@ pub enum Kind {
 }
 
 // A record of a name: its type, and where its data stands in the table. The next entry begins where the data ends.
-#[derive(Drop)]
+#[derive(Clone, Copy)]
 pub struct Record {
     pub rtype: u16,
     pub start: usize,
@@ -59,7 +60,7 @@ pub fn kind_of(number: u16) -> Kind
 
 // The names of a good table, in order: the number of each one's kind, and the offsets from which and up to which its octets stand.
 // Its records begin where its octets end.
-#[derive(Drop)]
+#[derive(Clone, Copy)]
 pub struct Table {
     pub kinds: [u16; Table::NAMES],
     pub starts: [u16; Table::NAMES],
@@ -113,7 +114,7 @@ fn has_length(body: &[u8], n: usize) -> bool
 }
 
 // An entry that keeps the rules for its form, or not. That a name is new is another rule.
-#[derive(Drop)]
+#[derive(Clone, Copy)]
 pub enum Form {
     Name,
     Record,
@@ -190,21 +191,21 @@ fn form_by(kind: Kind, names: usize, records: usize, body: &[u8]) -> Form
 }
 
 // The number of a name, or none.
-#[derive(Drop)]
+#[derive(Clone, Copy)]
 pub enum Found {
     At(usize),
     Nothing,
 }
 
 // A name by its number: its kind, and the offsets from which and up to which its octets stand.
-#[derive(Drop)]
+#[derive(Clone, Copy)]
 pub struct Named {
     pub kind: Kind,
     pub start: usize,
     pub end: usize,
 }
 
-#[derive(Drop)]
+#[derive(Clone, Copy)]
 pub enum NameFound {
     At(Named),
     Nothing,
@@ -212,7 +213,7 @@ pub enum NameFound {
 
 // What reading a table gives: its names; or, if it is not good, the offset of the first entry that breaks a rule. A good table gives
 // the offset 0, a bad one no names.
-#[derive(Drop)]
+#[derive(Clone, Copy)]
 pub struct TableRead {
     pub good: bool,
     pub at: usize,
@@ -368,7 +369,7 @@ impl Table {
 
 // A record at an offset of a table; or the mask of the records after it, and where they begin; or neither: a name stands there, or the
 // table ends.
-#[derive(Drop)]
+#[derive(Clone, Copy)]
 pub enum RecordRead {
     Good(Record),
     Mask { mask: u8, end: usize },

@@ -1,4 +1,5 @@
 // Domain names where they stand in a slice of octets.
+#![tactic(auto)]
 ghost use Rattle.std.specs.Prelude.{◌≡◌, ◌+◌, ◌≤◌, ◌<◌, length};
 ghost use Rattle.octets.specs.Octets.{octet_at, put, splice};
 ghost use Rattle.octets.specs.Tests.{◌and◌};
@@ -9,7 +10,7 @@ ghost use Rattle.names.specs.RecordNameWalk.{turn_at, pointer_turn, goes_on, wal
 ghost use Rattle.names.specs.Comparison.{is_end, ends_from, same_record_name};
 
 // A name without pointers: its octets with the zero octet, and its labels.
-#[derive(Drop)]
+#[derive(Clone, Copy)]
 pub struct Name {
     pub len: usize,
     pub labels: usize,
@@ -25,7 +26,7 @@ impl Name {
     const MANY: usize = 8;
 }
 
-#[derive(Drop)]
+#[derive(Clone, Copy)]
 pub enum NameRead {
     Good(Name),
     Bad,
@@ -90,7 +91,7 @@ pub fn same_name(a: &[u8], b: &[u8]) -> bool
 }
 
 // The name in a record: the offset after it, the octets of the expanded name, the pointers followed, and the labels taken.
-#[derive(Drop)]
+#[derive(Clone, Copy)]
 pub struct RecordName {
     pub next: usize,
     pub len: usize,
@@ -108,7 +109,7 @@ impl RecordName {
     pub const POINTER: usize = 0xC0;
 }
 
-#[derive(Drop)]
+#[derive(Clone, Copy)]
 pub enum RecordNameRead {
     Good(RecordName),
     Bad,
@@ -116,7 +117,7 @@ pub enum RecordNameRead {
 
 // Where a record's name is being read: the offset, where the current run of labels began, the pointers followed, the octets of
 // the expanded name so far, and where reading goes on after the first pointer.
-#[derive(Drop)]
+#[derive(Clone, Copy)]
 pub struct Walk {
     pub at: usize,
     pub run: usize,
@@ -125,7 +126,7 @@ pub struct Walk {
     pub next: usize,
 }
 
-#[derive(Drop)]
+#[derive(Clone, Copy)]
 pub enum Turn {
     More(Walk),
     End(RecordName),

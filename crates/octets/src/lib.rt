@@ -1,5 +1,6 @@
 // Octets in slices, 16-bit words, and addresses. Every function is total: an octet past the end reads as 0, and a write that
 // does not fit changes nothing.
+#![tactic(auto)]
 ghost use Rattle.std.specs.Prelude.{◌≡◌, [], ◌∷◌, ◌≤◌, length};
 ghost use Rattle.octets.specs.Bounds.{used_by6};
 ghost use Rattle.octets.specs.Octets.{octet_at, runs_past, part_of, splice, put};
@@ -103,7 +104,7 @@ pub fn put_octets(out: &mut [u8], at: usize, src: &[u8])
 
 // An address: its family is 4 or 6. Family 4 uses the first four octets.
 #[repr(C)]
-#[derive(Drop)]
+#[derive(Clone, Copy)]
 pub struct Address {
     pub family: u8,
     pub octets: [u8; Address::IPV6_OCTETS],
@@ -111,7 +112,7 @@ pub struct Address {
 
 // An address and a UDP port.
 #[repr(C)]
-#[derive(Drop)]
+#[derive(Clone, Copy)]
 pub struct Endpoint {
     pub address: Address,
     pub port: u16,
@@ -119,7 +120,7 @@ pub struct Endpoint {
 
 // The settings of one interface: its family (any other than 4 or 6: unused), address, and repeat interval in milliseconds.
 #[repr(C)]
-#[derive(Drop)]
+#[derive(Clone, Copy)]
 pub struct Setting {
     pub family: u8,
     pub address: [u8; Address::IPV6_OCTETS],

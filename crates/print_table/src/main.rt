@@ -1,5 +1,6 @@
 // Prints the name table that is read from standard input: the number of names, then a line for each name with its number, kind,
 // octets and records; or the refusal of a bad table.
+#![tactic(auto)]
 use libc::{STDIN_FILENO, STDOUT_FILENO};
 use name_table::{Kind, NameFound, Table, resources};
 

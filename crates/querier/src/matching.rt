@@ -12,7 +12,7 @@ use octets::{Address, Setting};
 use refusal::Refusal;
 
 // A refusal, or none.
-#[derive(Drop)]
+#[derive(Clone, Copy)]
 pub(crate) struct Matching {
     pub(crate) refused: bool,
     pub(crate) refusal: Refusal,

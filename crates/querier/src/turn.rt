@@ -9,7 +9,7 @@ use lookup::{Outcome, Phase};
 use octets::Setting;
 
 // What a tick makes of a lookup: its next phase, whether its query goes out, and what is told where it does not.
-#[derive(Drop)]
+#[derive(Clone, Copy)]
 pub(crate) struct Turn {
     pub(crate) asks: bool,
     pub(crate) phase: Phase,

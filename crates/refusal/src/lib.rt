@@ -1,9 +1,10 @@
 // Refusals of document 01. The algebra of checks made in order stands in specs/Checks.antt.
+#![tactic(auto)]
 ghost use Rattle.std.specs.Prelude.{◌≡◌};
 ghost use Rattle.refusal.specs.Numbers.{number_of};
 
 // Why a call was refused, in the order of document 01's table; document 02 adds the last two.
-#[derive(Drop)]
+#[derive(Clone, Copy)]
 pub enum Refusal {
     Room,
     Table { at: usize },

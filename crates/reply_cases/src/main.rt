@@ -1,5 +1,6 @@
 // Writes replies to questions for scale3 from tables of many addresses, and prints how many octets and answers each has and
 // whether TC is set.
+#![tactic(auto)]
 ghost use Rattle.std.specs.Prelude.{◌<◌, length};
 
 use libc::STDOUT_FILENO;

@@ -14,7 +14,7 @@ use octets::{Address, Endpoint, Setting};
 use refusal::Refusal;
 
 // What a datagram calls for.
-#[derive(Drop)]
+#[derive(Clone, Copy)]
 pub(crate) enum Judged {
     Refused(Refusal),
     Answer,
@@ -180,7 +180,7 @@ fn is_lost(state: NameState, tentative: bool, source: Address, setting: Setting)
 }
 
 // How a contest ends that does not come from ourselves: the name is defended by a query, is lost, or goes on as it is.
-#[derive(Drop)]
+#[derive(Clone, Copy)]
 pub(crate) enum Ending {
     Defended,
     Lost,
@@ -234,7 +234,7 @@ pub(crate) fn next(
 }
 
 // What is told, and where the octets written are to be sent.
-#[derive(Drop)]
+#[derive(Clone, Copy)]
 pub(crate) struct Told {
     pub(crate) outcome: Outcome,
     pub(crate) to: Endpoint,

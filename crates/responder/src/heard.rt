@@ -21,7 +21,7 @@ use refusal::Refusal;
 
 // A refusal; or none, and the number of the name that the datagram is for, where its records begin in the table, a timer that is started now,
 // the header and the question.
-#[derive(Drop)]
+#[derive(Clone, Copy)]
 pub struct Heard {
     pub refused: bool,
     pub refusal: Refusal,

@@ -7,7 +7,7 @@ use name_table::Table;
 use refusal::Refusal;
 
 // What the opening comes to: a refusal, or none and the names of the table.
-#[derive(Drop)]
+#[derive(Clone, Copy)]
 pub(crate) struct Opening {
     pub(crate) refused: bool,
     pub(crate) refusal: Refusal,

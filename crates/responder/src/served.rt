@@ -23,7 +23,7 @@ use refusal::Refusal;
 
 // What a call comes to: if the name that its outcome tells has a new state, that one, else Off; the clock; the outcome; and where the octets
 // written are to be sent.
-#[derive(Drop)]
+#[derive(Clone, Copy)]
 pub struct Served {
     pub name: Name,
     pub clock: u64,

@@ -13,7 +13,7 @@ use name_table::Kind;
 use octets::Setting;
 
 // A name's next state, and whether its query goes out, with which ID.
-#[derive(Drop)]
+#[derive(Clone, Copy)]
 pub(crate) struct Turn {
     pub(crate) asks: bool,
     pub(crate) id: u16,

@@ -6,7 +6,7 @@ ghost use Rattle.run_calls.specs.Entries.{slots, kind_of, is_unknown, is_sized, 
 
 use octets::{Address, Endpoint, Setting};
 
-#[derive(Drop)]
+#[derive(Clone, Copy)]
 pub enum Kind {
     Table,
     SetUp,
@@ -22,14 +22,14 @@ pub enum Kind {
 }
 
 // An entry: its kind, and its length with the head.
-#[derive(Drop)]
+#[derive(Clone, Copy)]
 pub struct Entry {
     pub kind: Kind,
     pub len: usize,
 }
 
 // Why a run ends before the file does.
-#[derive(Drop)]
+#[derive(Clone, Copy)]
 pub enum Why {
     Cut,
     Short,
@@ -38,14 +38,14 @@ pub enum Why {
     Long,
 }
 
-#[derive(Drop)]
+#[derive(Clone, Copy)]
 pub enum EntryRead {
     Whole(Entry),
     Bad(Why),
 }
 
 // What most bodies begin with.
-#[derive(Drop)]
+#[derive(Clone, Copy)]
 pub struct Prefix {
     pub interface: u8,
     pub time: u64,

@@ -8,14 +8,14 @@ use host::{Host, Interface};
 use lookup::{Lookup, Step};
 use octets::Setting;
 
-#[derive(Drop)]
+#[derive(Clone, Copy)]
 pub struct Lookups {
     pub settings: [Setting; Setting::COUNT],
     pub slots: [Lookup; Entry::SLOTS],
 }
 
 // What an entry about lookups gives: the next lookups, and the octets of lines after it.
-#[derive(Drop)]
+#[derive(Clone, Copy)]
 pub struct Asked {
     pub lookups: Lookups,
     pub used: usize,

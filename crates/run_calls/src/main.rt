@@ -1,4 +1,5 @@
 // Reads a call file from standard input, makes its calls, and prints a line for each entry.
+#![tactic(auto)]
 ghost use Rattle.std.specs.Prelude.{◌≡◌, length, replicate};
 
 mod entry;
@@ -11,14 +12,14 @@ use libc::{STDIN_FILENO, STDOUT_FILENO};
 use lookups::Lookups;
 
 // What a call of the host gives: the next host, and the octets of lines after it.
-#[derive(Drop)]
+#[derive(Clone, Copy)]
 struct Served {
     host: Host,
     used: usize,
 }
 
 // What an entry leaves.
-#[derive(Drop)]
+#[derive(Clone, Copy)]
 struct Taken {
     host: Host,
     lookups: Lookups,
