@@ -1,6 +1,7 @@
 // Octets in slices, 16-bit words, and addresses. Every function is total: an octet past the end reads as 0, and a write that
 // does not fit changes nothing.
 #![tactic(auto)]
+
 ghost use Rattle.std.specs.Prelude.{◌≡◌, [], ◌∷◌, ◌≤◌, length};
 ghost use Rattle.octets.specs.Bounds.{used_by6};
 ghost use Rattle.octets.specs.Octets.{octet_at, runs_past, part_of, splice, put};

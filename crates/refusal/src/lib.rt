@@ -1,5 +1,6 @@
 // Refusals of document 01. The algebra of checks made in order stands in specs/Checks.antt.
 #![tactic(auto)]
+
 ghost use Rattle.std.specs.Prelude.{◌≡◌};
 ghost use Rattle.refusal.specs.Numbers.{number_of};
 
