@@ -9,7 +9,7 @@ use lib.ListN.{length, get_or, drop, length-append}
 use lib.Seq.{take_at, drop_at}
 use Rattle.octets.specs.Bounds.{used_by4, used_by6}
 use Rattle.octets.proofs.Octets.{part_in}
-use Rattle.names.specs.Names.{Labels, AreLabels, IsName, encode}
+use Rattle.names.specs.Names.{Labels, IsName, encode}
 use Rattle.names.specs.Folding.{folded_name}
 use Rattle.names.proofs.Names.{same_labels}
 use Rattle.name_table.specs.Bounds.{most_names, most_records, entry_head}

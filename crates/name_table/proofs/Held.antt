@@ -1,9 +1,9 @@
 -- What a good table holds, for callers: each of its names is a name, there are at most 8, and one is found by every spelling of it.
 use Prim.Native.Nat.{ℕ, zero, suc, ◌+◌, ◌<◌, ◌≤◌}
 use mathlib.Core.Path.{◌≡◌, refl, sym, ap, ◌∙◌, subst}
-use mathlib.Core.List.{List, [], ◌∷◌, ◌++◌, append-nil, append_assoc}
+use mathlib.Core.List.{List, [], ◌∷◌}
 use native.Mathlib.Omega.{arith}
-use lib.ListN.{length, get_or, length-append}
+use lib.ListN.{length, get_or}
 use Rattle.octets.specs.Octets.{Octets}
 use Rattle.octets.proofs.Tests.{split}
 use Rattle.names.specs.Names.{Labels, IsName, encode}
@@ -11,9 +11,9 @@ use Rattle.names.specs.Folding.{folded_name, same_name}
 use Rattle.names.proofs.Names.{same_labels}
 use Rattle.name_table.specs.Bounds.{most_names, entry_head}
 use Rattle.name_table.specs.Check.{Held, Checked, no_name, names_in, good, check_table, find_from, find_name}
-use Rattle.name_table.specs.Entries.{Entry, name, resource, mask, data_octets, names, Keeps, AllKeep, GoodTable, located}
+use Rattle.name_table.specs.Entries.{Entry, name, resource, mask, data_octets, names, GoodTable, located}
 use Rattle.name_table.specs.declared.Found.TheVariants.{At}
-use Rattle.name_table.proofs.Entries.{AreNames, names_append, located_length}
+use Rattle.name_table.proofs.Entries.{AreNames, located_length}
 use Rattle.name_table.proofs.Meaning.{all_names, good_iff}
 use Rattle.name_table.proofs.Numbers.{finds}
 use Rattle.name_table.proofs.Read.{read_few}

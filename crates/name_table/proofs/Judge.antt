@@ -13,11 +13,11 @@ use borrow.Author.Tests.{eq-eqb, eqb-true, eqb-false, leb-true, leb-false}
 use Rattle.octets.specs.Bounds.{used_by4, used_by6}
 use Rattle.octets.specs.Octets.{Octets}
 use Rattle.octets.proofs.Tests.{split, never}
-use Rattle.octets.proofs.Octets.{octet_at_lem, octets_append, octets_part, part_in, length_part}
+use Rattle.octets.proofs.Octets.{octet_at_lem, octets_part, part_in, length_part}
 use Rattle.names.specs.declared.NameRead.{NameRead}
 use Rattle.names.specs.declared.NameRead.TheVariants.{Good as GoodName, Bad as BadName}
 use Rattle.names.specs.NameWalk.{name_at}
-use Rattle.names.specs.Names.{Labels, AreLabels, IsName, NameAt, encode}
+use Rattle.names.specs.Names.{Labels, IsName, NameAt, encode}
 use Rattle.names.specs.Folding.{folded_name, same_name}
 use Rattle.names.proofs.Names.{reads_a_name, finds_name, encode_some, encode_octets}
 use Rattle.names.proofs.Folding.{same_names}

@@ -1,5 +1,6 @@
 // The name table: its check and its names. The records of a name are read in resources.rt.
 #![tactic(auto)]
+
 ghost use Rattle.std.specs.Prelude.{◌≡◌, false, List, ℕ, ◌≤◌, min, length, eqb};
 ghost use Rattle.name_table.specs.Bounds.{longest_table, most_names};
 ghost use Rattle.name_table.specs.Kinds.{kind_of};

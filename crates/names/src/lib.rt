@@ -1,5 +1,6 @@
 // Domain names where they stand in a slice of octets.
 #![tactic(auto)]
+
 ghost use Rattle.std.specs.Prelude.{◌≡◌, ◌+◌, ◌≤◌, ◌<◌, length};
 ghost use Rattle.octets.specs.Octets.{octet_at, put, splice};
 ghost use Rattle.octets.specs.Tests.{◌and◌};

@@ -1,0 +1,15 @@
+use borrow.Author.Tests.{le-leb, lt-leb}
+use Rattle.names.specs.Folding.{folded}
+use Rattle.names.proofs.fold.Goals as goal
+
+pub returns-then-c-le90 : goal.returns-then-c-le90
+unfolding folded
+returns-then-c-le90 c = simp (le-leb _ _ c.if-c-ge65.true, le-leb _ _ c.if-c-le90.true)
+
+pub returns-else-c-le90 : goal.returns-else-c-le90
+unfolding folded
+returns-else-c-le90 c = simp (le-leb _ _ c.if-c-ge65.true, lt-leb _ _ c.if-c-le90.false)
+
+pub returns-else-c-ge65 : goal.returns-else-c-ge65
+unfolding folded
+returns-else-c-ge65 c = simp (lt-leb _ _ c.if-c-ge65.false)
