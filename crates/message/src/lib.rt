@@ -1,5 +1,6 @@
 // Messages: header, question and resource records, read; queries, written. Replies are written in replies.rt.
 #![tactic(auto)]
+
 ghost use Rattle.std.specs.Prelude.{◌≡◌, [], ◌+◌, ◌<◌, ◌≤◌, length};
 ghost use Rattle.octets.specs.Octets.{put, splice};
 ghost use Rattle.message.specs.Bounds.{header_octets};
