@@ -11,8 +11,7 @@ use borrow.Author.Tests.{eqb-true, eq-eqb}
 use Rattle.octets.specs.Tests.{◌and◌, ◌or◌}
 use Rattle.octets.specs.Addresses.{is_group}
 use Rattle.octets.proofs.Tests.{not_below, not_not, neither, only_first}
-use Rattle.refusal.specs.Numbers.{number}
-use Rattle.refusal.specs.Checks.{Checks, fail, Verdict, Gives, next, Clear}
+use Rattle.refusal.specs.Checks.{Checks, Verdict, Gives, next, Clear}
 use Rattle.refusal.proofs.Checks.{gives}
 use Rattle.name_table.specs.Check.{Held, check_table, names_in, is_found, number_or}
 use Rattle.name_table.specs.declared.Found.TheVariants.{At, Nothing}

@@ -7,19 +7,18 @@ use mathlib.Core.Bool.{Bool, true, false, cond, not}
 use native.Mathlib.Omega.{arith}
 use lib.ListN.{length}
 use Rattle.octets.specs.Tests.{◌or◌}
-use Rattle.octets.specs.Addresses.{address_of}
 use Rattle.octets.proofs.Tests.{never, not_not, only_first}
 use Rattle.refusal.specs.Numbers.{Report}
 use Rattle.refusal.specs.Checks.{Verdict, refused as refused_by, passed, verdict, Clear}
 use Rattle.refusal.proofs.Checks.{clear}
 use Rattle.name_table.specs.Check.{check_table, names_in, is_found}
 use Rattle.message.specs.Query.{query_octets}
-use Rattle.host.specs.State.{setting_of, off, unique, stopped, is}
+use Rattle.host.specs.State.{off, unique, stopped, is}
 use Rattle.host.specs.Outcomes.{Done, CallResult, refusal, refused, ready, quiet, query, reply, kept, unique as unique_name, shared as shared_name, stopped as stopped_name}
 use Rattle.host.specs.Receive.{Arrival, header, question, question_in, found, name_number, state, from_us, bad_notification, query_checks, response_checks, receive_checks, Decision, answer, defend, stop, keep, loses, decision, effect, receive_if, receive}
 use Rattle.host.specs.ExactlyWhen.{Replies, RepliesWhen, Asks, DefendsWhen, IsTaken, MatchArrives, StopsWhen, KeepsWhen}
 use Rattle.host.specs.declared.Host.{Host}
-use Rattle.host.proofs.Conditions.{found_at, not_off, not_stopped, is_unique, waits_is, taken_is}
+use Rattle.host.proofs.Conditions.{found_at, not_off, not_stopped, is_unique, waits_is}
 use Rattle.host.proofs.Arrives.{after_11, query_is, response_is}
 use Rattle.host.proofs.Received.{lost_is, replies, defends, stops_it, keeps_it}
 

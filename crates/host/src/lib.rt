@@ -1,6 +1,7 @@
 // The host: what it may call itself on each interface, and what a call gives. What the calls do is defined in specs/; their code
 // stands in the crate responder.
 #![tactic(auto)]
+
 ghost use Rattle.std.specs.Prelude.{◌≡◌};
 ghost use Rattle.host.specs.State.{interval_of, four_settings};
 ghost use Rattle.host.specs.Outcomes.{nowhere as zero_endpoint};
