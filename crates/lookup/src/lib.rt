@@ -1,6 +1,7 @@
 // A lookup: what it asks for, how far it is, and what a call of it gives. What the calls do is defined in specs/; their code stands in the
 // crate querier.
 #![tactic(auto)]
+
 ghost use Rattle.std.specs.Prelude.{◌≡◌};
 ghost use Rattle.lookup.specs.State.{ended_lookup};
 
