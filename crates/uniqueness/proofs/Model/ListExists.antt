@@ -9,7 +9,7 @@ use native.Mathlib.Decide.{ℕ_discrete}
 use native.Mathlib.Omega.{arith}
 use Rattle.host.specs.Bounds.{sends_in_all}
 use Rattle.uniqueness.specs.Link.{update}
-use Rattle.uniqueness.proofs.Model.{Claim, off, verifying, unique, stopped, LinkModel, Message, query, reply, answer, after_reply, Delivery, done, asked, taken_in, queries, updated, Send, send, World, Event, start, tick, time, OnTime, begin, again, won, Step, Run, stay, then, Fresh, Settled, Owns, OneByOne, clash}
+use Rattle.uniqueness.proofs.Model.{Claim, off, verifying, unique, stopped, LinkModel, Message, query, reply, answer, after_reply, Delivery, done, asked, taken_in, queries, updated, Send, send, World, Event, start, tick, OnTime, begin, again, won, Step, Run, stay, then, Fresh, Settled, Owns, OneByOne, clash}
 use Rattle.uniqueness.proofs.Model.Deliveries.{sent_else}
 use Rattle.uniqueness.proofs.Model.Invariant.{invariant_run, invariant_fresh}
 use Rattle.uniqueness.proofs.Model.InTurn.{Alone, Owning, alone_sends, owned_stops, alone_only, owned_none}

@@ -2,22 +2,18 @@
 use Prim.Native.Nat.{ℕ, ◌+◌, ◌%◌, ◌≤◌, ◌<◌}
 use mathlib.Core.Path.{◌≡◌, sym, subst}
 use mathlib.Core.Bool.{Bool, false, cond}
-use mathlib.Core.List.{List, [], ◌∷◌, ◌++◌}
+use mathlib.Core.List.{List}
 use native.Mathlib.Omega.{arith}
 use lib.ListN.{get_or, length}
 use Rattle.octets.specs.Octets.{Octets, octet_at, part_of}
-use Rattle.octets.specs.Words.{big_octets}
-use Rattle.octets.proofs.Octets.{octets_append}
-use Rattle.names.specs.Names.{Labels, AreLabels, encode}
+use Rattle.names.specs.Names.{encode}
 use Rattle.names.specs.NameWalk.{labels_of, name_at}
 use Rattle.message.specs.Bounds.{header_octets, class_in, type_any}
 use Rattle.message.specs.declared.Header.{Header}
-use Rattle.message.specs.declared.HeaderRead.TheVariants.{Good as GoodHeader}
 use Rattle.message.specs.declared.Question.{Question}
 use Rattle.message.specs.declared.QuestionRead.TheVariants.{Good}
-use Rattle.message.specs.Header.{header_of, header_at}
+use Rattle.message.specs.Header.{header_of}
 use Rattle.message.specs.Question.{question_at, question_octets}
-use Rattle.message.specs.Query.{query_octets}
 use Rattle.message.specs.Reply.{reply_header}
 use Rattle.message.proofs.Headers.{header_is}
 use Rattle.message.proofs.Questions.{question_octets_lem}

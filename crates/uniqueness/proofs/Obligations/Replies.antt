@@ -19,7 +19,7 @@ use Rattle.host.specs.Outcomes.{Done, kept as Kept, stopped as StoppedName}
 use Rattle.host.specs.Receive.{Arrival, header}
 use Rattle.host.specs.Stopping.{stopped_until}
 use Rattle.host.specs.ExactlyWhen.{ResponseArrives, AsksFor, state_here, WaitsFor, TakenBy, IsAwaited, IsTaken, MatchArrives}
-use Rattle.host.proofs.Received.{not_ours_lem, stops_it, keeps_it, not_awaited}
+use Rattle.host.proofs.Received.{stops_it, keeps_it, not_awaited}
 use Rattle.uniqueness.specs.Link.{Station, Link, Receipt, SameName, OnLink, Conditions}
 use Rattle.uniqueness.proofs.Obligations.{top, host_with, RefusedWith, refused_with, Taken, waits, address, own, arrival, responded}
 use Rattle.uniqueness.proofs.Obligations.{verifying as verifying_with}
