@@ -1,5 +1,5 @@
 -- The statement of specs/Replies.antt leaves nothing open: two calls of which it holds, for the same arrival and records, give the same.
-use Prim.Native.Nat.{ℕ, ◌+◌, ◌<◌, ◌≤◌}
+use Prim.Native.Nat.{ℕ, ◌+◌, ◌≤◌}
 use mathlib.Core.Path.{◌≡◌, refl, sym, ap, ◌∙◌, subst}
 use mathlib.Core.Logic.{◌⊎◌, inl, inr}
 use mathlib.Core.List.{List, [], ◌∷◌, ◌++◌}
@@ -15,7 +15,7 @@ use Rattle.host.specs.Receive.{Arrival}
 use Rattle.host.specs.declared.Interface.{Interface}
 use Rattle.host.specs.declared.NameState.{NameState}
 use Rattle.host.specs.declared.Host.{Host}
-use Rattle.witness.specs.Replies.{asked_for, record_octets, records_octets, reply_of, flags_of, DoesNotFit, WholeReply}
+use Rattle.witness.specs.Replies.{record_octets, records_octets, reply_of, flags_of, DoesNotFit, WholeReply}
 
 size_on : (d : Data) (ds : List Data) → length (records_octets (d ∷ ds)) ≡ 12 + length (data_octets d) + length (records_octets ds)
 size_on d ds = omega (arith, length-append (record_octets d) (records_octets ds))

@@ -1,5 +1,5 @@
 -- A reply holds the records of the name that is asked for, wherever it stands in the table; with two names, never the other's.
-use Prim.Native.Nat.{ℕ, suc, ◌+◌, ◌<◌, ◌≤◌}
+use Prim.Native.Nat.{ℕ, suc, ◌+◌, ◌<◌}
 use mathlib.Core.Path.{◌≡◌, refl, sym, ap, ◌∙◌, subst}
 use mathlib.Core.List.{List, [], ◌∷◌, ◌++◌, map, append-nil, append_assoc}
 use native.Mathlib.Omega.{arith}
@@ -10,11 +10,10 @@ use Rattle.names.specs.Folding.{folded_name}
 use Rattle.names.proofs.Names.{same_labels}
 use Rattle.name_table.specs.Entries.{NameKind, Data, Entry, resource, names, Owned, leading, owned, valid_for, GoodTable}
 use Rattle.host.specs.State.{state_of}
-use Rattle.host.specs.Outcomes.{Done}
 use Rattle.host.specs.Receive.{Arrival, receive}
 use Rattle.host.specs.ExactlyWhen.{RepliesWhen}
 use Rattle.host.specs.declared.Host.{Host}
-use Rattle.witness.specs.Replies.{NameFirst, Group, group_entries, masked, group_records, Owns, WholeReply, AsksTheName, ReplyFrom}
+use Rattle.witness.specs.Replies.{NameFirst, Group, group_entries, masked, group_records, Owns, WholeReply, ReplyFrom}
 use Rattle.witness.specs.SameReply.{two_names}
 use Rattle.witness.proofs.Replies.{reply_whole}
 

@@ -32,7 +32,7 @@ use Rattle.message.proofs.Reply.{taken_are, reply_length}
 use Rattle.message.proofs.ReplyLaws.{has_room_lem, reads_header, reply_within}
 use Rattle.message.proofs.ReplyAnswers.{reads_answers, table_data}
 use Rattle.host.specs.State.{state_of, verifying, shared, is}
-use Rattle.host.specs.Outcomes.{Done, reply}
+use Rattle.host.specs.Outcomes.{Done}
 use Rattle.host.specs.Receive.{Arrival, reply_head_of, replied, receive}
 use Rattle.host.specs.ExactlyWhen.{RepliesWhen}
 use Rattle.host.specs.declared.NameState.{NameState}
