@@ -1,18 +1,19 @@
 // Writes replies to questions for scale3 from tables of many addresses, and prints how many octets and answers each has and
 // whether TC is set.
 #![tactic(auto)]
+
 ghost use Rattle.std.specs.Prelude.{◌<◌, length};
 
-use libc::STDOUT_FILENO;
 use message::{HeaderRead, ReplyHead, replies};
 use name_table::Table;
+use std::io;
 
-fn text(octets: &[u8]) {
-    io::write_all(STDOUT_FILENO, octets);
+fn text(rt: &impl Print, octets: &[u8]) -> io::Result<()> {
+    rt.write_all(octets)
 }
 
-fn number(n: usize) {
-    io::print_decimal(STDOUT_FILENO, n as u64);
+fn number(rt: &impl Print, n: usize) -> io::Result<()> {
+    print!(rt; "{n}")
 }
 
 // Writes an entry of the table n times, one after another, from an offset on.
@@ -28,23 +29,29 @@ fn put_entries(table: &mut [u8], from: u16, n: u8, entry: &[u8])
     }
 }
 
-fn print_head(reply: &[u8]) {
+fn print_head(rt: &impl Print, reply: &[u8]) -> io::Result<()> {
     let read = message::read_header(reply);
     let HeaderRead::Good(h) = read else {
-        text(b" no header\n");
-        return;
+        return text(rt, b" no header\n");
     };
-    text(b" answers ");
-    number(h.answers as usize);
+    text(rt, b" answers ")?;
+    number(rt, h.answers as usize)?;
     if h.truncated {
-        text(b" TC set\n");
+        text(rt, b" TC set\n")
     } else {
-        text(b" TC clear\n");
+        text(rt, b" TC clear\n")
     }
 }
 
 // A table with scale3 and so many records of each type, asked by a question on interface 0. The A records stand behind a mask.
-fn print_case(aaaa: u8, a: u8, mask: u8, question: &[u8], qtype: u16) {
+fn print_case(
+    rt: &impl Print,
+    aaaa: u8,
+    a: u8,
+    mask: u8,
+    question: &[u8],
+    qtype: u16,
+) -> io::Result<()> {
     let mut table = [0u8; 1024];
     octets::put_octets(&mut table, 0, b"\x0c\x00\x01\x00\x06scale3\x00");
     put_entries(
@@ -75,30 +82,30 @@ fn print_case(aaaa: u8, a: u8, mask: u8, question: &[u8], qtype: u16) {
         octets::part(&table, 0, end),
         12,
     );
-    number(aaaa as usize);
-    text(b" AAAA ");
-    number(a as usize);
+    number(rt, aaaa as usize)?;
+    text(rt, b" AAAA ")?;
+    number(rt, a as usize)?;
     if mask == Table::EVERYWHERE {
-        text(b" A: octets ");
+        text(rt, b" A: octets ")?;
     } else {
-        text(b" A with a mask: octets ");
+        text(rt, b" A with a mask: octets ")?;
     }
-    number(len);
-    print_head(octets::part(&out, 0, len));
+    number(rt, len)?;
+    print_head(rt, octets::part(&out, 0, len))
 }
 
-fn main() {
+fn main(rt: HostRuntime) -> io::Result<()> {
     let aaaa = b"\x06scale3\x00\x00\x1c\x00\x01";
     let any = b"\x06scale3\x00\x00\xff\x00\x01";
     let all = Table::EVERYWHERE;
-    print_case(17, 0, all, aaaa, 28);
-    print_case(18, 0, all, aaaa, 28);
-    print_case(18, 3, all, aaaa, 28);
-    print_case(10, 13, all, any, 255);
-    print_case(10, 14, all, any, 255);
-    print_case(10, 14, all, aaaa, 28);
-    print_case(0, 5, all, aaaa, 28);
-    print_case(17, 1, 2, any, 255);
-    print_case(17, 1, 3, any, 255);
-    print_case(18, 1, 2, any, 255);
+    print_case(&rt, 17, 0, all, aaaa, 28)?;
+    print_case(&rt, 18, 0, all, aaaa, 28)?;
+    print_case(&rt, 18, 3, all, aaaa, 28)?;
+    print_case(&rt, 10, 13, all, any, 255)?;
+    print_case(&rt, 10, 14, all, any, 255)?;
+    print_case(&rt, 10, 14, all, aaaa, 28)?;
+    print_case(&rt, 0, 5, all, aaaa, 28)?;
+    print_case(&rt, 17, 1, 2, any, 255)?;
+    print_case(&rt, 17, 1, 3, any, 255)?;
+    print_case(&rt, 18, 1, 2, any, 255)
 }
