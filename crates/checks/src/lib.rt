@@ -1,6 +1,7 @@
 // The checks that the calls of a host and of a lookup share: the interface, the clock, and what a datagram says. They are defined in the
 // crate host.
 #![tactic(auto)]
+
 ghost use Rattle.std.specs.Prelude.{◌≡◌, true, ◌<◌};
 ghost use Rattle.octets.specs.Bounds.{interfaces};
 ghost use Rattle.host.specs.Early.{no_interface, bad_clock};
