@@ -1,6 +1,6 @@
 -- An exchange, octet by octet: 192.0.2.99 looks the A record of scale3 up, the host 192.0.2.17 with table S replies, and the reply arrives. The
 -- name is Unique at the host, or still Verifying, or Shared.
-use Rattle.std.specs.Prelude.{ℕ, ◌≡◌, List, [], ◌∷◌, ◌++◌, false, take, replicate}
+use Rattle.std.specs.Prelude.{ℕ, ◌≡◌, List, ◌∷◌, false, take, replicate}
 use Rattle.octets.specs.Addresses.{group_of}
 use Rattle.octets.specs.declared.Address.{Address}
 use Rattle.octets.specs.declared.Setting.{Setting}
@@ -10,11 +10,10 @@ use Rattle.host.specs.Outcomes.{reply, Done as HostDone}
 use Rattle.host.specs.Receive.{receive as host_receive}
 use Rattle.host.specs.declared.NameState.{NameState}
 use Rattle.host.specs.declared.NameState.TheVariants.{Unique, Shared}
-use Rattle.lookup.specs.Outcomes.{CallResult, refused, query as queried, part, found, quiet, collected, no_such_name, Done}
+use Rattle.lookup.specs.Outcomes.{refused, query as queried, part, found, quiet, collected, no_such_name, Done}
 use Rattle.lookup.specs.Start.{start}
 use Rattle.lookup.specs.Receive.{receive}
 use Rattle.lookup.specs.Tick.{tick}
-use Rattle.lookup.specs.declared.Phase.{Phase}
 use Rattle.lookup.specs.declared.Phase.TheVariants.{Asking, Collecting, Ended}
 use Rattle.examples.specs.Cases.{scale3, table_s, buffer, host, verifying, query, question, querier}
 

@@ -1,6 +1,6 @@
 -- The numbers of the papers, as they print them. The constants of the definitions are these; and each contract that cites a definition
 -- ties the constant of the code to it.
-use Rattle.std.specs.Prelude.{ℕ, ◌+◌, ◌-◌, ◌*◌, ◌^◌, ◌≡◌, List, [], ◌∷◌, ◌++◌, true, replicate}
+use Rattle.std.specs.Prelude.{ℕ, ◌+◌, ◌-◌, ◌*◌, ◌^◌, ◌≡◌, [], ◌∷◌, ◌++◌, true, replicate}
 use Rattle.octets.specs.Bounds.{ipv4, ipv6, used_by4, used_by6, llmnr_port, interfaces}
 use Rattle.octets.specs.Words.{big_at, little_at, big_octets, little_octets}
 use Rattle.octets.specs.Addresses.{group_of}
