@@ -1,6 +1,7 @@
 // The calls of a lookup: start, receive and tick. They take the lookup by value and give the next one. What each gives is defined in the crate
 // lookup.
 #![tactic(auto)]
+
 ghost use Rattle.std.specs.Prelude.{◌≡◌};
 ghost use Rattle.host.specs.Outcomes.{nowhere};
 ghost use Rattle.lookup.specs.State.{with_phase};
