@@ -26,7 +26,7 @@ use Rattle.checks.specs.declared.Datagram.{Datagram}
 use Rattle.checks.specs.Messages.{read_checks, datagram_read, datagram_by}
 use Rattle.checks.proofs.DatagramLaws.{IsRead, datagram_refused, datagram_read_lem, name_inside}
 use Rattle.responder.specs.Contest.{why_unknown}
-use Rattle.responder.specs.Heard.{Hearing, refuses, hears, named_by, heard_if, hearing}
+use Rattle.responder.specs.Heard.{refuses, hears, named_by, heard_if, hearing}
 use Rattle.responder.proofs.OpeningLaws.{Called}
 use Rattle.responder.proofs.NameLaws.{counted, held_is}
 

@@ -39,7 +39,7 @@ use Rattle.responder.specs.declared.contest.Told.{Told}
 use Rattle.responder.specs.Stopping.{until_by}
 use Rattle.responder.specs.Served.{changes, name_told, Serves}
 use Rattle.responder.specs.declared.heard.Heard.{Heard}
-use Rattle.responder.specs.Heard.{Hearing, refuses, hears, named_by, heard_if, hearing, heard_by}
+use Rattle.responder.specs.Heard.{refuses, hears, named_by, heard_if, hearing, heard_by}
 use Rattle.responder.proofs.HeardLaws.{checks_read, checks_heard}
 use Rattle.responder.proofs.StoppingLaws.{until_is}
 use Rattle.responder.proofs.ContestLaws.{last_checks, verdict_of, not_found, judged_so, decision_of, answers_so, ends_so}

@@ -1,6 +1,6 @@
 -- What is heard of a datagram before any name's state is looked at: the checks 1 to 11 refuse it, or the table does not have the name (12, or
 -- 15 for a response), or it is for a name of the table.
-use Rattle.std.specs.Prelude.{ℕ, cond, List}
+use Rattle.std.specs.Prelude.{ℕ, cond}
 use Rattle.refusal.specs.Numbers.{Report, report_of}
 use Rattle.refusal.specs.Checks.{pass, Verdict, refused, passed, verdict}
 use Rattle.name_table.specs.Check.{name_in}

@@ -1,6 +1,7 @@
 // The calls of a host: set-up, start, receive and tick. They take the host by value and give the next one. What each gives is defined in the
 // crate host.
 #![tactic(auto)]
+
 ghost use Rattle.std.specs.Prelude.{◌≡◌, ℕ, ◌<◌, List, [], if◌then◌else◌, slice_index_or};
 ghost use Rattle.octets.specs.Bounds.{interfaces};
 ghost use Rattle.name_table.specs.Bounds.{most_names};
