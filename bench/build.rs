@@ -1,5 +1,5 @@
 //! Links the archives of proved functions into the programs that measure them. That of `bench` is LLMNR_ARCHIVE, or the
-//! place where `rt staticlib llmnr_c` puts it; that of `names` is NAMES_ARCHIVE, which `names.sh` makes.
+//! place where `rt lib` in crates/llmnr_c puts it; that of `names` is NAMES_ARCHIVE, which `names.sh` makes.
 
 use std::path::{Path, PathBuf};
 
@@ -15,11 +15,11 @@ fn link(program: &str, archive: &Path) {
 }
 
 fn main() {
-    let usual = PathBuf::from(env!("CARGO_MANIFEST_DIR")).join("../target/staticlib/libllmnr_c.a");
+    let usual = PathBuf::from(env!("CARGO_MANIFEST_DIR")).join("../crates/llmnr_c/out/libllmnr_c.a");
     let archive = named("LLMNR_ARCHIVE").unwrap_or(usual);
     link("bench", &archive);
     if !archive.exists() {
-        println!("cargo:warning=no archive at {}: write it with `rt staticlib llmnr_c`", archive.display());
+        println!("cargo:warning=no archive at {}: `rt lib` in crates/llmnr_c writes it", archive.display());
     }
     if let Some(archive) = named("NAMES_ARCHIVE") {
         link("names", &archive);

@@ -2,8 +2,8 @@
  * An indicator and an office terminal in one program, without a network: the indicator comes to own the name scale3, the terminal looks it
  * up, and each gets what the other sends from memory. A program with sockets makes the same calls.
  *
- *     rt staticlib llmnr_c
- *     gcc -std=c99 -Iinclude examples/embed.c target/staticlib/libllmnr_c.a -o embed
+ *     (cd crates/llmnr_c && rt lib)
+ *     gcc -std=c99 -Iinclude examples/embed.c crates/llmnr_c/out/libllmnr_c.a -o embed
  */
 #include "llmnr.h"
 

@@ -1,21 +1,21 @@
 #!/usr/bin/env bash
 # Builds indicator, ask and make_table into target/programs. The library's archive is proved and made first if it is missing.
 # usage: programs/build.sh
-#   ARCHIVE  the archive (target/staticlib/libllmnr_c.a)       INCLUDE  the folder of llmnr.h (include)
-#   OUT      where the programs go (target/programs)           CC       the compiler (gcc)
+#   ARCHIVE  the archive (crates/llmnr_c/out/libllmnr_c.a)      INCLUDE  the folder of llmnr.h (include)
+#   OUT      where the programs go (target/programs)            CC       the compiler (gcc)
 set -eu
 here=$(cd "$(dirname "$0")" && pwd)
 root=$(dirname "$here")
-archive=${ARCHIVE:-$root/target/staticlib/libllmnr_c.a}
+archive=${ARCHIVE:-$root/crates/llmnr_c/out/libllmnr_c.a}
 include=${INCLUDE:-$root/include}
 out=${OUT:-$root/target/programs}
 flags=(-std=c99 -Wall -Wextra -Werror -pedantic -O2 -I "$include")
 
 if [ ! -f "$archive" ]; then
     [ -z "${ARCHIVE:-}" ] || { echo "build.sh: there is no $archive" >&2; exit 1; }
-    echo "rt staticlib llmnr_c (its log: $root/target/staticlib.log)"
+    echo "rt lib in crates/llmnr_c (its log: $root/target/llmnr_c.log)"
     mkdir -p "$root/target"
-    (cd "$root" && rt staticlib llmnr_c >target/staticlib.log 2>&1) || { tail -n 20 "$root/target/staticlib.log" >&2; exit 1; }
+    (cd "$root/crates/llmnr_c" && rt lib) >"$root/target/llmnr_c.log" 2>&1 || { tail -n 20 "$root/target/llmnr_c.log" >&2; exit 1; }
 fi
 
 # build PROGRAM FILE...: the further files that it is made of

@@ -1,17 +1,21 @@
 #!/usr/bin/env bash
-# The library for C: builds the archive if a source is newer, compiles the example and the tests against include/llmnr.h, and runs them. The
+# The library for C: builds the archive (rt ci leaves none) if it is not there or a source is newer, compiles the example and the tests against include/llmnr.h, and runs them. The
 # example must print examples/embed.out. The last line says what passed; the exit status is 0 only if all of it did.
 # usage: tests/c.sh     ARCHIVE=another archive, which is taken as it is
 set -eu
 cd "$(dirname "$0")/.."
-archive=${ARCHIVE:-target/staticlib/libllmnr_c.a}
+archive=${ARCHIVE:-crates/llmnr_c/out/libllmnr_c.a}
 work=$(mktemp -d)
 trap 'rm -rf "$work"' EXIT
 
-newer() { find crates crates.txt -type f \( -path '*/src/*' -o -path '*/specs/*' -o -path '*/proofs/*' -o -name crates.txt \) -newer "$archive" | head -n 1; }
+# what rt makes, crates/*/out, is no source
+newer() {
+    find crates crates.txt -path 'crates/*/out' -prune -o \
+        -type f \( -path '*/src/*' -o -path '*/specs/*' -o -path '*/proofs/*' -o -name crates.txt \) -newer "$archive" -print | head -n 1
+}
 if [ -z "${ARCHIVE:-}" ] && { [ ! -f "$archive" ] || [ -n "$(newer)" ]; }; then
     mkdir -p target
-    rt staticlib llmnr_c >target/staticlib.log 2>&1 || { tail -n 20 target/staticlib.log; echo 'c: the archive was not built'; exit 1; }
+    (cd crates/llmnr_c && rt lib) >target/llmnr_c.log 2>&1 || { tail -n 20 target/llmnr_c.log; echo 'c: the archive was not built'; exit 1; }
 fi
 
 # The header by itself, in C and in C++; then every program, as strictly, and optimised.

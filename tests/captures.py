@@ -1,7 +1,7 @@
 #!/usr/bin/env python3
 """Puts our host and our lookup into the places of other makers' programs in the captures, and holds what they do against what was captured.
 
-    python3 tests/captures.py [--write] [--second PROGRAM] [PROGRAM]     PROGRAM is target/bin/run_calls unless it is named
+    python3 tests/captures.py [--write] [--second PROGRAM] [PROGRAM]     PROGRAM is crates/run_calls/out/run_calls unless it is named
 
 For each capture: our host in each captured host's place, each reply and query held against the captured one, octet by octet; our lookups in
 each captured asker's place, with the captured IDs, fed the captured responses; and our host with the same names shared, asked by our
@@ -222,7 +222,7 @@ def main():
     parser = argparse.ArgumentParser(description="Holds our host and lookup against other makers' captures.")
     parser.add_argument("--write", action="store_true", help="write captures/differences.txt anew")
     parser.add_argument("--second", type=Path, help="the second program, which must print the same lines")
-    parser.add_argument("program", nargs="?", type=Path, default=ROOT / "target" / "bin" / "run_calls")
+    parser.add_argument("program", nargs="?", type=Path, default=ROOT / "crates" / "run_calls" / "out" / "run_calls")
     chosen = parser.parse_args()
     programs = Programs(chosen.program.resolve(), chosen.second.resolve() if chosen.second else None)
     report = all_runs(programs)

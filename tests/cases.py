@@ -1,7 +1,7 @@
 #!/usr/bin/env python3
 """Runs run_calls on the stored call files and holds what it prints against the stored lines.
 
-    python3 tests/cases.py [PROGRAM]     PROGRAM is target/bin/run_calls unless it is named
+    python3 tests/cases.py [PROGRAM]     PROGRAM is crates/run_calls/out/run_calls unless it is named
 
 The cases are the texts of tests/cases/ and example/. Beside each text stand its call file and its lines; that they are what the text gives
 is checked too. Of each case that differs the first different line is shown. The exit status is 0 only if there were cases and none differs.
@@ -54,9 +54,9 @@ def agrees(program, text):
 
 
 def main():
-    program = Path(sys.argv[1] if len(sys.argv) > 1 else ROOT / "target" / "bin" / "run_calls").resolve()
+    program = Path(sys.argv[1] if len(sys.argv) > 1 else ROOT / "crates" / "run_calls" / "out" / "run_calls").resolve()
     if not program.exists():
-        print(f"{program} is not there: rt check run_calls")
+        print(f"{program} is not there: `rt run` in crates/run_calls, or `rt ci`, makes it")
         return 1
     cases = texts()
     if not cases or not as_made(cases) or stray():

@@ -1,7 +1,7 @@
 #!/usr/bin/env python3
 """Runs run_calls on random and damaged call files and sees that each run comes to its end as docs/CALL-FILES.md lays it down.
 
-    python3 tests/damaged.py [PROGRAM [FILES [SEED]]]     target/bin/run_calls, 600 files and seed 4795 unless they are named
+    python3 tests/damaged.py [PROGRAM [FILES [SEED]]]     crates/run_calls/out/run_calls, 600 files and seed 4795 unless they are named
 
 The files are made from the stored ones: cut, with octets changed, with entries shuffled, with random entries of the right size after a
 good beginning, and of random octets. For each the exit status is 0, there is one line for each whole entry, of its kind and with its
@@ -219,7 +219,7 @@ def try_file(program, octets, label):
 
 def main():
     arguments = sys.argv[1:]
-    program = Path(arguments[0] if arguments else ROOT / "target" / "bin" / "run_calls").resolve()
+    program = Path(arguments[0] if arguments else ROOT / "crates" / "run_calls" / "out" / "run_calls").resolve()
     count = int(arguments[1]) if len(arguments) > 1 else 600
     seed = int(arguments[2]) if len(arguments) > 2 else 4795
     stored = stored_files()

@@ -3,10 +3,10 @@
 # planted fault of the second program must be found. Then the code in the archive is looked at: the comparison calls nothing, and its frame, with
 # the 128 octets below it that a function may use, has no room for an array of 255 octets. The last line says what passed; the exit status is 0
 # only if all of it did.
-# usage: tests/names.sh     ARCHIVE=another archive (target/staticlib/libllmnr_c.a, which tests/c.sh builds)
+# usage: tests/names.sh     ARCHIVE=another archive (crates/llmnr_c/out/libllmnr_c.a, which tests/c.sh builds)
 set -eu -o pipefail
 cd "$(dirname "$0")/.."
-archive=${ARCHIVE:-target/staticlib/libllmnr_c.a}
+archive=${ARCHIVE:-crates/llmnr_c/out/libllmnr_c.a}
 work=$(mktemp -d)
 trap 'rm -rf "$work"' EXIT
 

@@ -3,7 +3,7 @@
 # in hexadecimal.
 # The last line counts the cases; the exit status is 0 only if there were some and all passed.
 set -u
-program=${1:-target/bin/print_table}
+program=${1:-crates/print_table/out/print_table}
 passed=0
 failed=0
 

@@ -18,7 +18,7 @@ const USAGE: &str = "usage: second COMMAND
   names [OPTIONS]       random pairs of names and whether they are equal, for tests/names.c
                         (only --from, --pairs N (100000), and --fault WORD)
   help                  this text
-options: --program PATH (target/bin/run_calls) --from SEED (0) --files N (2000)
+options: --program PATH (crates/run_calls/out/run_calls) --from SEED (0) --files N (2000)
          --calls N (300) --jobs N (all cores) --keep DIR (target/second) --no-tally";
 
 fn bad_usage(reason: &str) -> i32 {

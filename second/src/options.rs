@@ -21,7 +21,7 @@ pub struct Options {
 impl Options {
     pub fn read(arguments: &[String]) -> Result<Options, String> {
         let mut options = Options {
-            program: PathBuf::from("target/bin/run_calls"),
+            program: PathBuf::from("crates/run_calls/out/run_calls"),
             from: 0,
             files: JUDGED_FILES,
             calls: JUDGED_CALLS,
@@ -64,7 +64,7 @@ impl Seeds {
     /// `counted` is the option that tells how many, and `count` is how many without it.
     pub fn read(arguments: &[String], counted: &str, count: u64) -> Result<Seeds, String> {
         let jobs = available_parallelism().map_or(1, NonZero::get);
-        let mut seeds = Seeds { program: PathBuf::from("target/bin/run_calls"), from: 0, count, jobs };
+        let mut seeds = Seeds { program: PathBuf::from("crates/run_calls/out/run_calls"), from: 0, count, jobs };
         let mut rest = arguments.iter();
         while let Some(key) = rest.next() {
             let value = rest.next().ok_or(format!("{key} needs a value"))?;
