@@ -4,10 +4,10 @@
 usage, from the repository's root: python3 tests/changes.py [--list] [--jobs N] [WORD ..]
 (WORD: only changes whose line, or file's name, has it; N are tried at a time)
 
-A change is tried against the crates below in their order, from the lowest that it edits on; the first that is not proved refuses it. It is
-printed with the first law or theorem there that is refused. Functions whose own proofs (proofs/FN/Proof.antt) are refused as well are named
-after it: where the change gives the code another shape, that says nothing about the change. Exit status 1 if some change is refused by
-no law or theorem, or is none: its code or definition has an error of its own.
+A change is tried by rt check in the crates below, in their order, from the lowest that it edits on; the first that is not proved refuses it. It
+is printed with the first law or theorem there that is refused. Functions whose own proofs (proofs/FN/Answers.antt and Invariants.antt) are
+refused or leave a goal open as well are named after it: where the change gives the code another shape, that says nothing about the change.
+Exit status 1 if some change is refused by no law or theorem, or is none: its code or definition has an error of its own.
 """
 import concurrent.futures
 import glob
@@ -19,8 +19,16 @@ import subprocess
 import sys
 import tempfile
 
-CRATES = ['octets', 'refusal', 'names', 'name_table', 'message', 'host', 'witness', 'order', 'examples', 'lookup', 'exchange']
-ERROR = re.compile(r'crates/(\w+)/(\S+?):\d+:\d+: error: (?:`([^`]*)`)?(.*)')
+CRATES = ['octets', 'refusal', 'names', 'name_table', 'message', 'host', 'witness', 'order', 'lookup', 'examples', 'exchange']
+# an error, its file named from the crate's folder on: ./proofs/NameWalk.antt:12:3: error: `at_none`: ..
+ERROR = re.compile(r'^(?:\./)?((?:src|specs|proofs)/\S+?):\d+:\d+: error(?:\[[\w-]+\])?: (?:`([^`]*)`)?(.*)', re.M)
+# the files of a function's proof; and a function with an open goal or without a measure (not one that only calls such a function)
+PROOF = re.compile(r'proofs/(\S+)/(?:Invariants|Answers|Proof)\.antt')
+OPEN = re.compile(r'^fn (\S+): no proof: expected ', re.M)
+# a crate below, which is checked first, is not proved
+BELOW = re.compile(r'^rt: the library (\w+) did not build', re.M)
+# the status of rt check where the prover came to a limit of its own and gives no verdict
+LIMIT = 3
 
 
 def changes():
@@ -63,27 +71,31 @@ def refusal(root, edits):
     """What is refused: 'law', 'function' or 'error', with its name; or None."""
     lowest = min(CRATES.index(name.split('/')[1]) for name, old, new in edits)
     for crate in CRATES[lowest:]:
-        run = subprocess.run(['rt', 'dev', crate], cwd=root, capture_output=True, text=True)
+        run = subprocess.run(['rt', 'check'], cwd=os.path.join(root, 'crates', crate), capture_output=True, text=True)
         out = run.stdout + run.stderr
         if run.returncode == 0:
             continue
+        below = BELOW.search(out)
+        where = below.group(1) if below else crate
         laws, functions, errors = [], [], []
-        for where, path, name, rest in ERROR.findall(out):
-            proof = re.fullmatch(r'proofs/(\S+)/Proof\.antt', path)
+        for path, name, rest in ERROR.findall(out):
+            proof = PROOF.fullmatch(path)
             if not path.startswith('proofs/'):
                 errors.append(where + '/' + path + ' ' + name)
             elif 'was not admitted' in rest:  # it cites what is refused itself
                 continue
             elif proof:
-                functions.append(where + '::' + proof.group(1).replace('/', '::'))
+                functions.append(where + '::' + proof.group(1).replace('+', '').replace('/', '::'))
             else:
                 laws.append(where + '/' + path[len('proofs/'):-len('.antt')] + ' ' + name)
-        if errors:
-            return 'error', errors[0]
-        functions = list(dict.fromkeys(functions))
+        last = where + ': ' + ' '.join(out.split()[-12:])
+        if errors or run.returncode not in (1, LIMIT):
+            return 'error', errors[0] if errors else last
+        functions = list(dict.fromkeys(functions + OPEN.findall(out)))
+        more = (', and ' + ', '.join(functions) if functions else '') + (' (at a limit of the prover)' if run.returncode == LIMIT else '')
         if laws:
-            return 'law', laws[0] + (', and ' + ', '.join(functions) if functions else '')
-        return 'function', ', '.join(functions) or crate + ': ' + ' '.join(out.split()[-12:])
+            return 'law', laws[0] + more
+        return 'function', ', '.join(functions) or last
     return None
 
 
@@ -126,7 +138,8 @@ def main():
 
     try:
         for n in range(jobs):
-            copies.put(shutil.copytree('.', os.path.join(work, str(n)), ignore=shutil.ignore_patterns('.git')))
+            # rt check in a copy begins with what checks in this folder kept
+            copies.put(shutil.copytree('.', os.path.join(work, str(n)), ignore=shutil.ignore_patterns('.git', 'out', 'target')))
         with concurrent.futures.ThreadPoolExecutor(jobs) as pool:
             list(pool.map(one, chosen))
         print('%d changes: %d refused at a law or theorem, %d at a function alone, %d not refused, %d are none'
