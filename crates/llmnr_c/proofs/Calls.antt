@@ -2,7 +2,7 @@
 use Prim.Native.Nat.{ℕ, zero, suc, ◌<◌}
 use mathlib.Core.Path.{◌≡◌, refl, sym, ap, ◌∙◌}
 use mathlib.Core.List.{List, map}
-use mathlib.Core.Bool.{true, false, cond}
+use mathlib.Core.Bool.{true, false}
 use native.Mathlib.Omega.{arith}
 use lib.ListN.{length, get_or, length-map}
 use lib.Seq.{get_or-set_same}
@@ -11,7 +11,6 @@ use borrow.Author.Tests.{le-ltb}
 use Rattle.octets.specs.Bounds.{interfaces}
 use Rattle.octets.specs.Addresses.{ours_among, is_ours, unused}
 use Rattle.octets.specs.declared.Address.{Address}
-use Rattle.octets.specs.declared.Setting.{Setting}
 use Rattle.octets.proofs.Tests.{split}
 use Rattle.name_table.specs.Bounds.{most_names}
 use Rattle.host.specs.State.{off_name, interface_of as interface_at, setting_of, state_of as state_at, is_own, with_state}
@@ -19,7 +18,7 @@ use Rattle.host.specs.Outcomes.{CallResult, refused, ready, quiet, kept, query, 
 use Rattle.host.specs.declared.Name.{Name}
 use Rattle.host.specs.declared.NameState.{NameState}
 use Rattle.checks.specs.Messages.{slot_of}
-use Rattle.responder.specs.Served.{Sees, changes, name_told, host_after, served_by, Serves}
+use Rattle.responder.specs.Served.{Sees, changes, name_told, served_by, Serves}
 use Rattle.responder.specs.declared.served.Served.{Served}
 use Rattle.llmnr_c.specs.Outcomes.{flat_outcome}
 use Rattle.llmnr_c.specs.FlatHost.{name_of, seen, flat_state, flat_served, FlatDone, done, step_on}

@@ -3,7 +3,7 @@
 use Prim.Native.Nat.{ℕ, zero, suc, ◌<◌}
 use mathlib.Core.Path.{◌≡◌, refl, sym, ap, ◌∙◌}
 use mathlib.Core.List.{List, [], ◌∷◌, map}
-use mathlib.Core.Bool.{true, false, cond}
+use mathlib.Core.Bool.{false}
 use native.Mathlib.Omega.{arith}
 use lib.ListN.{length, get_or, set}
 use lib.Seq.{get_or-set_same, set_out}
@@ -12,13 +12,12 @@ use borrow.Author.Tests.{leb-true, leb-false}
 use Rattle.octets.specs.Bounds.{interfaces}
 use Rattle.octets.proofs.Tests.{split}
 use Rattle.host.specs.State.{absent, off_name, interface_of as interface_at, state_of as state_at, with_state}
-use Rattle.host.specs.Outcomes.{CallResult, Done}
+use Rattle.host.specs.Outcomes.{Done}
 use Rattle.host.specs.Laws.{SameHere, SameDone}
 use Rattle.host.specs.Start.{start}
 use Rattle.host.specs.Receive.{Arrival, receive}
 use Rattle.host.specs.Tick.{tick}
 use Rattle.host.specs.declared.NameState.{NameState}
-use Rattle.host.specs.declared.Name.{Name}
 use Rattle.host.specs.declared.Interface.{Interface}
 use Rattle.host.specs.declared.Host.{Host}
 use Rattle.host.proofs.Laws.{start_same, receive_same, tick_same}

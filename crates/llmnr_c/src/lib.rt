@@ -4,6 +4,7 @@
 // A call of a host depends on the settings, the clock and the names of its own interface alone, and changes at most the clock and one of these
 // names. So it is given these, and gives the clock and that name.
 #![tactic(auto)]
+
 ghost use Rattle.std.specs.Prelude.{◌≡◌, true, ◌<◌};
 ghost use Rattle.octets.specs.Bounds.{interfaces};
 ghost use Rattle.names.specs.Comparison.{same_record_name};
