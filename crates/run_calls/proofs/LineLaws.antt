@@ -6,7 +6,7 @@ use native.Mathlib.Omega.{arith}
 use native.Mathlib.Numerals.{add-one}
 use lib.ListN.{length, get_or, take, set, replicate}
 use lib.Seq.{take-suc, take-suc-set, take_all, take-length, length-take-le}
-use Rattle.io.specs.Digits.{hex_digit_ascii}
+use Rattle.std.specs.Char.{digit_char}
 use Rattle.octets.specs.Octets.{splice}
 use Rattle.octets.proofs.Splice.{two, splice_splice, splice_none, length_splice}
 use Rattle.run_calls.specs.Lines.{hex_of}
@@ -30,13 +30,13 @@ module _ (d₀ d s : List ℕ) (i : ℕ) (h : i < length s) (k : length s * 2 �
   written : length (hex_of (take i s)) ≡ i * 2
   written = length_hex (take i s) ∙ ap (λ (n : ℕ). n * 2) (length-take-le i s (omega arith))
 
-  one_more : hex_of (take (i + 1) s) ≡ hex_of (take i s) ++ (hex_digit_ascii (get_or s i 0 / 16) ∷ hex_digit_ascii (get_or s i 0 % 16) ∷ [])
+  one_more : hex_of (take (i + 1) s) ≡ hex_of (take i s) ++ (digit_char (get_or s i 0 / 16) ∷ digit_char (get_or s i 0 % 16) ∷ [])
   unfolding hex_of
   one_more = rw (add-one i, take-suc s i 0 h, hex_append)
 
-  pub hex_more : set (set d (i * 2) (hex_digit_ascii (get_or s i 0 / 16))) (i * 2 + 1) (hex_digit_ascii (get_or s i 0 % 16)) ≡ splice d₀ 0 (hex_of (take (i + 1) s))
+  pub hex_more : set (set d (i * 2) (digit_char (get_or s i 0 / 16))) (i * 2 + 1) (digit_char (get_or s i 0 % 16)) ≡ splice d₀ 0 (hex_of (take (i + 1) s))
   hex_more =
-      let ys : List ℕ = hex_digit_ascii (get_or s i 0 / 16) ∷ hex_digit_ascii (get_or s i 0 % 16) ∷ [] in
+      let ys : List ℕ = digit_char (get_or s i 0 / 16) ∷ digit_char (get_or s i 0 % 16) ∷ [] in
       let w = written in
       let r : 0 + length (hex_of (take i s)) ≤ length d₀ = omega arith in
       let l : length d ≡ length d₀ = ap length e ∙ length_splice d₀ 0 (hex_of (take i s)) r in

@@ -7,7 +7,6 @@ use Rattle.octets.specs.declared.Endpoint.{Endpoint}
 use Rattle.octets.specs.declared.Setting.{Setting}
 use Rattle.run_calls.specs.declared.entry.Kind.{Kind}
 use Rattle.run_calls.specs.declared.entry.Kind.TheVariants.{Table, SetUp, Start, Datagram, Tick, Settings, Ask, Answer, AskTick, Name, Unknown}
-use Rattle.run_calls.specs.declared.entry.Why.{Why}
 use Rattle.run_calls.specs.declared.entry.Why.TheVariants.{Cut, Short, Kind as KindWhy, Size}
 use Rattle.run_calls.specs.declared.entry.EntryRead.{EntryRead}
 use Rattle.run_calls.specs.declared.entry.EntryRead.TheVariants.{Whole, Bad}

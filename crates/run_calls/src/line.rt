@@ -1,11 +1,12 @@
 // Lines, written into a buffer: each function writes from an offset on and gives the offset after. What does not fit is left out.
 ghost use Rattle.std.specs.Prelude.{◌≡◌, ◌+◌, ◌*◌, ◌≤◌, ◌<◌, length};
-ghost use Rattle.io.specs.Digits.{hex_digit_ascii};
+ghost use Rattle.std.specs.Char.{digit_char};
 ghost use Rattle.octets.specs.Octets.{splice, put as written};
 ghost use Rattle.run_calls.specs.Lines.{hex_of, after};
 
 use crate::entry::{EntryRead, Kind, Prefix, Why};
 use host::Outcome;
+use itoa::Buffer;
 use name_table::Table;
 use names::{Name, RecordName, RecordNameRead};
 use octets::Endpoint;
@@ -24,14 +25,13 @@ pub fn put(text: &mut [u8], at: usize, octets: &[u8]) -> usize
 
 // A number in decimal.
 fn put_number(text: &mut [u8], at: usize, n: u64) -> usize {
-    let mut digits = [0u8; 20];
-    let k = io::decimal(n, &mut digits);
-    put(text, at, &digits[..k])
+    let mut digits = Buffer::new();
+    put(text, at, digits.format(n).as_bytes())
 }
 
 fn hex_digit(n: u8) -> u8
     requires { n < 16 }
-    ensures { result ≡ hex_digit_ascii n }
+    ensures { result ≡ digit_char n }
 {
     if n < 10 { 48 + n } else { 87 + n }
 }

@@ -1,6 +1,7 @@
 // Reads a call file from standard input, makes its calls, and prints a line for each entry.
 #![tactic(auto)]
-ghost use Rattle.std.specs.Prelude.{◌≡◌, length, replicate};
+
+ghost use Rattle.std.specs.Prelude.{◌≡◌, ◌≤◌, length, replicate, IfOk};
 
 mod entry;
 mod line;
@@ -8,8 +9,9 @@ mod lookups;
 
 use entry::{Entry, EntryRead, Kind, Why};
 use host::{Host, Step};
-use libc::{STDIN_FILENO, STDOUT_FILENO};
 use lookups::Lookups;
+use std::io;
+use std::io::Read;
 
 // What a call of the host gives: the next host, and the octets of lines after it.
 #[derive(Clone, Copy)]
@@ -93,17 +95,17 @@ fn serve(
     Served { host, used }
 }
 
-fn write(text: &[u8], used: usize) {
-    io::write_all(STDOUT_FILENO, octets::part(text, 0, used));
+fn write(rt: &impl Print, text: &[u8], used: usize) -> io::Result<()> {
+    rt.write_all(octets::part(text, 0, used))
 }
 
 // Writes the lines out once they are many.
-fn spill(text: &[u8], used: usize) -> usize {
+fn spill(rt: &impl Print, text: &[u8], used: usize) -> io::Result<usize> {
     if used < SPILL {
-        return used;
+        return Ok(used);
     }
-    write(text, used);
-    0
+    write(rt, text, used)?;
+    Ok(0)
 }
 
 // Takes an entry of the host, a table, or a name.
@@ -162,7 +164,7 @@ fn take(
 }
 
 // Takes the entries of a file in order.
-fn run(file: &[u8], out: &mut [u8], text: &mut [u8]) {
+fn run(rt: &impl Print, file: &[u8], out: &mut [u8], text: &mut [u8]) -> io::Result<()> {
     let mut host = Host::zero();
     let mut lookups = Lookups::fresh(host);
     let mut table = octets::part(file, 0, 0);
@@ -174,8 +176,7 @@ fn run(file: &[u8], out: &mut [u8], text: &mut [u8]) {
         let read = entry::read(rest);
         let EntryRead::Whole(e) = read else {
             let end = line::put_end(text, used, at, read);
-            write(text, end);
-            return;
+            return write(rt, text, end);
         };
         let len = e.len;
         let kind = e.kind;
@@ -185,23 +186,38 @@ fn run(file: &[u8], out: &mut [u8], text: &mut [u8]) {
         let t = take(kind, host, lookups, table, body, n, out, text, used);
         host = t.host;
         lookups = t.lookups;
-        used = spill(text, t.used);
+        used = spill(rt, text, t.used)?;
         at = at + len;
         n = n + 1;
     }
-    write(text, used);
+    write(rt, text, used)
 }
 
-fn main() {
+// Reads until the buffer is full or the input ends, and gives the number of octets read.
+fn read_full(input: &mut impl Read, buffer: &mut [u8]) -> io::Result<usize>
+    ensures { IfOk result (λ n. n ≤ length buffer.new) }
+{
+    let mut done = 0;
+    while done < buffer.len() {
+        let n = input.read(&mut buffer[done..])?;
+        if n == 0 {
+            break;
+        }
+        done = done + n;
+    }
+    Ok(done)
+}
+
+fn main(rt: HostRuntime) -> io::Result<()> {
     // One octet more than the longest file has, to tell a longer one.
     let mut file = [0u8; Entry::FILE + 1];
-    let n = io::read_full(STDIN_FILENO, &mut file);
+    let mut input = rt.reader();
+    let n = read_full(&mut input, &mut file)?;
     let mut out = [0u8; Entry::ROOM];
     let mut text = [0u8; TEXT];
     if Entry::FILE < n {
         let used = line::put_end(&mut text, 0, Entry::FILE, EntryRead::Bad(Why::Long));
-        write(&text, used);
-        return;
+        return write(&rt, &text, used);
     }
-    run(&file[..n], &mut out, &mut text);
+    run(&rt, &file[..n], &mut out, &mut text)
 }
