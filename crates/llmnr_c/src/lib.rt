@@ -65,7 +65,7 @@ pub extern "C" fn llmnr_start(
     out: &mut [u8],
 ) -> FlatStep
     ensures out_after { done result out.new ≡ step_on interface (start_of (seen settings clock names) table.now interface name time id out.old) }
-    ensures interface_lt_interfaces { result.changed ≡ true → (interface < interfaces) × (result.outcome.name < most_names) }
+    ensures in_range { result.changed ≡ true → (interface < interfaces) × (result.outcome.name < most_names) }
 {
     let at = checks::slot(interface);
     let setting = settings.interfaces[at];
@@ -89,8 +89,8 @@ pub extern "C" fn llmnr_receive(
     id: u16,
     out: &mut [u8],
 ) -> FlatStep
-    ensures out_after { done result out.new ≡ step_on interface (receive_of (seen settings clock names) (record { table = table.entry.now; interface = interface; from = from; to = to; datagram = datagram.now; time = time; id = id; out = out.old })) }
-    ensures interface_lt_interfaces { result.changed ≡ true → (interface < interfaces) × (result.outcome.name < most_names) }
+    ensures out_after { done result out.new ≡ step_on interface (receive_of (seen settings clock names) (record { table = table.now; interface = interface; from = from; to = to; datagram = datagram.now; time = time; id = id; out = out.old })) }
+    ensures in_range { result.changed ≡ true → (interface < interfaces) × (result.outcome.name < most_names) }
 {
     let at = checks::slot(interface);
     let s = settings.interfaces[at];
@@ -122,7 +122,7 @@ pub extern "C" fn llmnr_tick(
     out: &mut [u8],
 ) -> FlatStep
     ensures out_after { done result out.new ≡ step_on interface (tick_of (seen settings clock names) table.now interface time id out.old) }
-    ensures interface_lt_interfaces { result.changed ≡ true → (interface < interfaces) × (result.outcome.name < most_names) }
+    ensures in_range { result.changed ≡ true → (interface < interfaces) × (result.outcome.name < most_names) }
 {
     let at = checks::slot(interface);
     let setting = settings.interfaces[at];

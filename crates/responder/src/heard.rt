@@ -94,7 +94,7 @@ pub fn hear(
     datagram: &[u8],
     time: u64,
 ) -> Heard
-    ensures { (h : Host) (id : ℕ) (out : List ℕ) → Sees h interface setting clock → length out ≡ room → heard_by result ≡ hearing h (record { table = table.entry.now; interface = interface; from = from; to = to; datagram = datagram.now; time = time; id = id; out = out }) }
+    ensures { (h : Host) (id : ℕ) (out : List ℕ) → Sees h interface setting clock → length out ≡ room → heard_by result ≡ hearing h (record { table = table.now; interface = interface; from = from; to = to; datagram = datagram.now; time = time; id = id; out = out }) }
 {
     let o = opening::open(room, table, interface, setting.family, clock, time);
     if o.refused {
@@ -134,7 +134,7 @@ pub fn answer(
     id: u16,
     out: &mut [u8],
 ) -> Served
-    ensures { (h : Host) (to : Address) → Sees h interface setting clock → is_ours settings from.address ≡ is_own h from.address → heard_by heard ≡ hearing h (record { table = table.entry.now; interface = interface; from = from; to = to; datagram = datagram.now; time = time; id = id; out = out.old }) → state_of h (slot_of interface) heard.name ≡ name.state → Serves result out.new h interface (receive_of h (record { table = table.entry.now; interface = interface; from = from; to = to; datagram = datagram.now; time = time; id = id; out = out.old })) }
+    ensures { (h : Host) (to : Address) → Sees h interface setting clock → is_ours settings from.address ≡ is_own h from.address → heard_by heard ≡ hearing h (record { table = table.now; interface = interface; from = from; to = to; datagram = datagram.now; time = time; id = id; out = out.old }) → state_of h (slot_of interface) heard.name ≡ name.state → Serves result out.new h interface (receive_of h (record { table = table.entry.now; interface = interface; from = from; to = to; datagram = datagram.now; time = time; id = id; out = out.old })) }
 {
     if heard.refused {
         let why = heard.refusal;

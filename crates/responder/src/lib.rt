@@ -134,7 +134,7 @@ pub fn receive(
     id: u16,
     out: &mut [u8],
 ) -> Step
-    ensures { done_by result out.new ≡ receive_of host (record { table = table.entry.now; interface = interface; from = from; to = to; datagram = datagram.now; time = time; id = id; out = out.old }) }
+    ensures { done_by result out.new ≡ receive_of host (record { table = table.now; interface = interface; from = from; to = to; datagram = datagram.now; time = time; id = id; out = out.old }) }
 {
     let at = checks::slot(interface);
     let here = host.interfaces[at];

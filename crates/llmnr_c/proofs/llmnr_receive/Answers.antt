@@ -66,9 +66,9 @@ returns-clause-out_after c =
     (state_seen c.args.settings c.args.clock c.args.names c.args.interface _ _ c.name_at-n.ensures.value) in
     rw c.step.ensures (flattens c.args.settings c.args.clock c.args.names c.answer-step.result _ c.args.interface (λ x. c.name_at-n.ensures.names_len) v)
 
-pub returns-clause-interface_lt_interfaces : goal.returns-clause-interface_lt_interfaces
-returns-clause-interface_lt_interfaces c =
+pub returns-clause-in_range : goal.returns-clause-in_range
+returns-clause-in_range c =
     let v =
-    c.answer-step.ensures (host (goal.at.returns-clause-interface_lt_interfaces c).After-hear-h) c.args.to (is_seen (goal.at.returns-clause-interface_lt_interfaces c).After-hear-h) (own_seen c.args.settings c.args.clock c.args.names c.args.from.address) (heard (goal.at.returns-clause-interface_lt_interfaces c).After-hear-h)
+    c.answer-step.ensures (host (goal.at.returns-clause-in_range c).After-hear-h) c.args.to (is_seen (goal.at.returns-clause-in_range c).After-hear-h) (own_seen c.args.settings c.args.clock c.args.names c.args.from.address) (heard (goal.at.returns-clause-in_range c).After-hear-h)
     (state_seen c.args.settings c.args.clock c.args.names c.args.interface _ _ c.name_at-n.ensures.value) in
     rw c.step.ensures (within c.answer-step.result c.args.interface v.within)

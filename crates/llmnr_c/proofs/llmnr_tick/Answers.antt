@@ -9,8 +9,8 @@ returns-clause-out_after c =
     (rw (names_seen c.args.settings c.args.clock c.args.names c.args.interface) c.find_due-k.ensures) (state_seen c.args.settings c.args.clock c.args.names c.args.interface _ _ c.name_at-n.ensures.value) in
     rw c.step.ensures (flattens c.args.settings c.args.clock c.args.names c.tick.result _ c.args.interface (λ x. c.name_at-n.ensures.names_len) v)
 
-pub returns-clause-interface_lt_interfaces : goal.returns-clause-interface_lt_interfaces
-returns-clause-interface_lt_interfaces c =
+pub returns-clause-in_range : goal.returns-clause-in_range
+returns-clause-in_range c =
     let v =
     c.tick.ensures (seen c.args.settings c.args.clock c.args.names) (sees c.args.settings c.args.clock c.args.names c.args.interface _ c.slot-at.ensures.value)
     (rw (names_seen c.args.settings c.args.clock c.args.names c.args.interface) c.find_due-k.ensures) (state_seen c.args.settings c.args.clock c.args.names c.args.interface _ _ c.name_at-n.ensures.value) in
