@@ -1,4 +1,4 @@
-use Rattle.std.proofs.Common.{◌≡◌, Bool, refl, ap, ◌∙◌}
+use Rattle.std.proofs.Common.{rules, ◌≡◌, Bool, refl, ap, ◌∙◌}
 use Rattle.responder.specs.declared.contest.Judged.{Judged}
 use Rattle.responder.specs.declared.contest.Judged.TheVariants.{Refused, Answer, Contest}
 use Rattle.responder.specs.Contest.{unless_own, judged}
@@ -18,7 +18,7 @@ returns-in_default c = stays (goal.at.returns-in_default c).In_default _ _ _ ref
 pub returns-then-is_ours : goal.returns-then-is_ours
 unfolding judged
 returns-then-is_ours c =
-    rw (c.own.ensures, ← c.is_ours.ensures, ← c.judge_state-first.ensures, c.in-Contest.is, c.if-is_ours.true)
+    rw (← c.is_ours.ensures, ← c.judge_state-first.ensures, c.in-Contest.is, c.if-is_ours.true) (ap Refused (search rules))
 
 pub returns : goal.returns
 unfolding judged
