@@ -21,7 +21,7 @@ enum { LOOKUPS = sizeof names / sizeof names[0], STOPS = LOOKUPS + 3, CASES = ST
 
 static const llmnr_settings settings = {{{4, {192, 0, 2, 17}, 100}}};
 
-/* The table of document 01's examples: unique name scale3 with A 192.0.2.17. */
+/* The table of the examples: unique name scale3 with A 192.0.2.17. */
 static const uint8_t table[] = "\x0c\0\1\0\6scale3\0\x08\0\3\0\xc0\0\2\x11";
 
 /* A response with ID 9 to the check of scale3, with one answer: its owner is a pointer to the question's name, its TTL is 30. */

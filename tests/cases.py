@@ -63,7 +63,7 @@ def main():
         print("run_calls: no cases, or stored files that are not what a text gives", *stray())
         return 1
     results = [agrees(program, text) for text in cases]
-    print(f"run_calls: {results.count(True)} cases as document 01 says, {results.count(False)} not")
+    print(f"run_calls: {results.count(True)} cases as stored, {results.count(False)} not")
     return 0 if all(results) else 1
 
 

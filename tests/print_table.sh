@@ -1,5 +1,5 @@
 #!/usr/bin/env bash
-# Runs the table printer on cases and compares what it prints with what document 01 says, and document 02 about masks. Tables are written
+# Runs the table printer on cases and compares what it prints with what the rules T say. Tables are written
 # in hexadecimal.
 # The last line counts the cases; the exit status is 0 only if there were some and all passed.
 set -u
@@ -153,5 +153,5 @@ for ((k = 0; k < 120; k++)); do
     esac
 done
 
-printf 'print_table: %d cases as document 01 says, %d not\n' "$passed" "$failed"
+printf 'print_table: %d cases as the rules say, %d not\n' "$passed" "$failed"
 [ "$passed" -gt 0 ] && [ "$failed" -eq 0 ]

@@ -1,4 +1,4 @@
-//! Several hosts on one link in simulation: the claim of demand 3, checked for many random lists through both programs.
+//! Several hosts on one link in simulation: the claim of one owner, checked for many random lists through both programs.
 
 mod broken;
 mod counts;

@@ -1,4 +1,4 @@
--- The constants of the definitions are the papers' numbers, by computation.
+-- The constants of the definitions are the numbers of docs/RULES.md, by computation.
 use mathlib.Core.Path.{refl}
 use Rattle.octets.specs.Addresses.{group_of}
 use Rattle.names.specs.Folding.{folded}

@@ -1,4 +1,4 @@
--- The cases of document 02, [1], hold, by computation.
+-- The cases of tables with masks hold, by computation.
 use mathlib.Core.Path.{refl}
 use Rattle.octets.specs.Octets.{part_of, splice, put}
 use Rattle.octets.specs.Addresses.{same_octets, same_address, group_of, is_group, has_address, ours_among}

@@ -1,5 +1,5 @@
--- Document 01's examples: a list of cases, each a call or some calls and what they give. First those marked P, then the others that are
--- about one call or a short run, and last those of document 02, [6].
+-- Examples of the rules: a list of cases, each a call or some calls and what they give. Name tables, single calls and short runs, and last
+-- those of a name that was lost.
 use Rattle.std.specs.Prelude.{ℕ, zero, suc, ◌+◌, ◌-◌, ◌≡◌, List, [], ◌∷◌, ◌++◌, length, take, replicate}
 use Rattle.octets.specs.declared.Endpoint.{Endpoint}
 use Rattle.octets.specs.Addresses.{group_of}

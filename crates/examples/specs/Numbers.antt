@@ -1,4 +1,4 @@
--- The numbers of the papers, as they print them. The constants of the definitions are these; and each contract that cites a definition
+-- The numbers of docs/RULES.md, as it prints them. The constants of the definitions are these; and each contract that cites a definition
 -- ties the constant of the code to it.
 use Rattle.std.specs.Prelude.{ℕ, ◌+◌, ◌-◌, ◌*◌, ◌^◌, ◌≡◌, [], ◌∷◌, ◌++◌, true, replicate}
 use Rattle.octets.specs.Bounds.{ipv4, ipv6, used_by4, used_by6, llmnr_port, interfaces}
@@ -19,7 +19,7 @@ abbrev pub flagged : ℕ → ℕ → Header
 flagged x y = header_of ((0 ∷ 0 ∷ x ∷ y ∷ []) ++ replicate 8 0)
 
 -- a buffer below 512 octets; a record that would pass 512; a time above 2^48 - 1; a datagram below 12 or above 9,194; the interval is
--- 100 or 1,000 ms; three sends; query class neither 1 nor 255. Of document 02, [6]: 1,000 ms to a second of a TTL; 30 s
+-- 100 or 1,000 ms; three sends; query class neither 1 nor 255. Of a name that was lost: 1,000 ms to a second of a TTL; 30 s
 abbrev pub OfTheHost : Type 0
 OfTheHost =
     (room ≡ 512) × (reply_limit ≡ 512) × (latest ≡ 2 ^ 48 - 1) × (shortest ≡ 12) × (longest ≡ 9194) × (short ≡ 100)
@@ -57,7 +57,7 @@ OfAddresses =
     × (llmnr_port ≡ 5355) × (interfaces ≡ 4)
 
 -- at most 4,096 octets, 8 names, 24 records to a name; 4 octets before a body. Kinds: 1 unique name, 2 shared name, 3 A (4 octets),
--- 4 AAAA (16), 5 PTR (a name); types 1, 28 and 12. Of document 02, [1]: kind 6, a mask of which bits 0 to 3 may be set
+-- 4 AAAA (16), 5 PTR (a name); types 1, 28 and 12. And kind 6, a mask of which bits 0 to 3 may be set
 abbrev pub OfTables : Type 0
 OfTables =
     (longest_table ≡ 4096) × (most_names ≡ 8) × (most_records ≡ 24) × (entry_head ≡ 4) × (kind_of 0 ≡ Unknown) × (kind_of 1 ≡ Unique)

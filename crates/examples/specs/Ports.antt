@@ -1,4 +1,4 @@
--- The cases of document 02, [1]: tables with masks, kind 6, and the replies of a host with two ports.
+-- Tables with masks, kind 6, and the replies of a host with two ports.
 use Rattle.std.specs.Prelude.{ℕ, ◌-◌, List, [], ◌∷◌, ◌++◌, length, take, replicate}
 use Rattle.octets.specs.Addresses.{group_of}
 use Rattle.name_table.specs.Check.{Checked, good, bad}

@@ -357,13 +357,13 @@ receive_same h g a same =
         subst (λ (d : Decision). SameDone (effect (decision h a) h a (question a) (name_number a)) (effect d g a (question a) (name_number a)) a.interface) e
         (by (decision h a))
 
--- ---- The order in which a call's refusals are looked for, as document 01 says it.
+-- ---- The order in which a call's refusals are looked for, as rules F say it.
 
 -- Set-up: 2, 4, 20.
 pub set_up_order : (table : List ℕ) (settings : List Setting) (time : ℕ) → numbers_of (set_up_checks table settings time) ≡ 2 ∷ 4 ∷ 20 ∷ []
 set_up_order table settings time = refl
 
--- Start: 1 to 4, 12, 19, and of document 02 21.
+-- Start: 1 to 4, 12, 19, 21.
 pub start_order : (h : Host) (table : List ℕ) (i k time : ℕ) (out : List ℕ) → numbers_of (start_checks h table i k time out) ≡ 1 ∷ 2 ∷ 3 ∷ 4 ∷ 12 ∷ 19 ∷ 21 ∷ []
 start_order h table i k time out = refl
 

@@ -1,4 +1,4 @@
--- Numbers of document 01 about the host.
+-- Numbers of the rules about the host: rules L of docs/RULES.md.
 use Rattle.std.specs.Prelude.{ℕ}
 
 -- octets of the output buffer that every call but set-up needs

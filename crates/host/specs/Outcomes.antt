@@ -1,4 +1,4 @@
--- What a call gives, and document 01's numbers and values for each outcome.
+-- What a call gives, and the number and values of each outcome: rules O of docs/RULES.md.
 use Rattle.std.specs.Prelude.{ℕ, List, Bool, true, false, replicate}
 use Rattle.octets.specs.Bounds.{used_by6}
 use Rattle.octets.specs.declared.Endpoint.{Endpoint}

@@ -28,7 +28,7 @@ pub record ReadyWhen (table : List ℕ) (settings : List Setting) (time : ℕ) :
   pub settings_good : (i : ℕ) → i < interfaces → ((get_or settings i unused).family ≡ ipv4) ⊎ ((get_or settings i unused).family ≡ ipv6)
       → SettingIsGood (get_or settings i unused)
 
--- ---- Refusals 1 to 4 of every call after set-up, with document 01's numbers: each where those before it do not hold.
+-- ---- Refusals 1 to 4 of every call after set-up, with the numbers of rules N: each where those before it do not hold.
 pub data RefusedFirst (h : Host) (table : List ℕ) (i time : ℕ) (out : List ℕ) : Report → Type 0 where
   first_room : length out < room_octets → RefusedFirst h table i time out (number 1)
   first_table : (at : ℕ) → room_octets ≤ length out → check_table table ≡ bad at → RefusedFirst h table i time out (number_at 2 at)

@@ -1,4 +1,4 @@
--- How long a name that a response has taken is not tried again (document 02, [6]; RFC 4795 section 4.2): the TTL of the response's first answer
+-- How long a name that a response has taken is not tried again (RFC 4795 section 4.2): the TTL of the response's first answer
 -- record, or 30 s if it has none, or one that is bad as in 18. No other record is read. That the plain words below say the same, both ways, is
 -- shown in proofs/Stopping.antt.
 use Rattle.std.specs.Prelude.{ℕ, ◌+◌, ◌*◌, ◌<◌, ◌≤◌, ◌≡◌, ◌≢◌, List, cond, ltb, eqb}

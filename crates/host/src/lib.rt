@@ -41,7 +41,7 @@ impl Timer {
     }
 }
 
-// The state of a name on an interface. Off is the zero value. Document 01's checking is Verifying; to hold a name is Unique or
+// The state of a name on an interface. Off is the zero value. A name is checked while Verifying; to own a name is Unique or
 // Defending. A stopped name is not tried again until a time.
 #[derive(Clone, Copy)]
 pub enum NameState {

@@ -1,5 +1,5 @@
 -- Exactly when a query goes out, a lookup is found, is a part of what is collected, ends with no such name, ends as found, or is quiet:
--- document 01's conditions, one by one, with its own numbers; and what each then gives, whole. That they are exact, both ways, is shown in
+-- the conditions of rules A, one by one, with their own numbers; and what each then gives, whole. That they are exact, both ways, is shown in
 -- proofs/Started.antt, proofs/Received.antt and proofs/Ticked.antt.
 use Rattle.std.specs.Prelude.{ℕ, ◌+◌, ◌/◌, ◌%◌, ◌<◌, ◌≤◌, ◌≡◌, ◌⊎◌, List, [], ◌∷◌, ◌++◌, Bool, true, false, length, get_or, drop, replicate}
 use Rattle.octets.specs.Addresses.{unused}

@@ -1,4 +1,4 @@
--- What a call gives, and document 01's numbers and values for each outcome.
+-- What a call gives, and the number and values of each outcome: rules A of docs/RULES.md.
 use Rattle.std.specs.Prelude.{ℕ, List, Bool, true, false, length}
 use Rattle.octets.specs.Octets.{put}
 use Rattle.octets.specs.Addresses.{group_endpoint}

@@ -1,5 +1,5 @@
--- When each refusal number is given: for start, receive and tick a list of number and condition, in document 01's order for the call, with
--- its own numbers. That a call gives a number exactly as its list says is shown in proofs/Refusals.antt.
+-- When each refusal number is given: for start, receive and tick a list of number and condition, in the order of rules F for the call, with
+-- the numbers of rules N. That a call gives a number exactly as its list says is shown in proofs/Refusals.antt.
 use Rattle.std.specs.Prelude.{ℕ, ◌+◌, ◌<◌, ◌≤◌, ◌≡◌, ◌≢◌, ◌⊎◌, List, [], ◌∷◌, ◌++◌, map, Bool, true, false, length, get_or, take}
 use Rattle.octets.specs.Octets.{part_of}
 use Rattle.octets.specs.Addresses.{unused}

@@ -1,4 +1,4 @@
--- Each call, whole and in plain terms: what a result d of it is, with document 01's own numbers and without the definition of the call.
+-- Each call, whole and in plain terms: what a result d of it is, with the rules' own numbers and without the definition of the call.
 -- That the call gives such a result, and that no other result is such, is shown in proofs/Whole.antt.
 use Rattle.std.specs.Prelude.{ℕ, ◌+◌, ◌≡◌, ◌↔◌, List, Bool, get_or, take}
 use Rattle.octets.specs.Addresses.{unused}

@@ -1,4 +1,4 @@
--- Numbers of document 01 about messages.
+-- Numbers of the rules about messages: rules L and R of docs/RULES.md.
 use Rattle.std.specs.Prelude.{ℕ, ◌+◌}
 
 -- octets of a header

@@ -1,4 +1,4 @@
--- Numbers of document 01, "The name table", and the record types of RFC 1035 and RFC 3596.
+-- Numbers of the rules about the name table, rules T and L of docs/RULES.md, and the record types of RFC 1035 and RFC 3596.
 use Rattle.std.specs.Prelude.{ℕ}
 
 -- octets of a table

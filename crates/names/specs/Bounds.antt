@@ -1,4 +1,4 @@
--- Numbers of document 01, "The message", about names.
+-- Numbers of the rules about names: rules L of docs/RULES.md.
 use Rattle.std.specs.Prelude.{ℕ}
 
 -- octets of a label

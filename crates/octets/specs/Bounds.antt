@@ -1,4 +1,4 @@
--- Numbers of document 01 about addresses.
+-- Numbers of the rules about addresses: rules M18 to M21 and L of docs/RULES.md.
 use Rattle.std.specs.Prelude.{ℕ}
 
 -- the two families

@@ -1,4 +1,4 @@
--- Addresses in plain words and with the papers' numbers.
+-- Addresses in plain words and with the rules' numbers.
 use Rattle.std.specs.Prelude.{ℕ, ◌<◌, ◌≡◌, List, [], ◌∷◌, get_or, take}
 use Rattle.octets.specs.Addresses.{unused}
 use Rattle.octets.specs.declared.Address.{Address}

@@ -1,4 +1,4 @@
--- Refusals in plain words: a list of numbers, each with its condition, in document 01's order for a call.
+-- Refusals in plain words: a list of numbers, each with its condition, in the order of rules F for a call.
 use Rattle.std.specs.Prelude.{ℕ, ◌≡◌, ◌⊎◌, List, [], ◌∷◌}
 use Rattle.refusal.specs.Numbers.{Report, number, number_at}
 

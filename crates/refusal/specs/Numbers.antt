@@ -1,4 +1,4 @@
--- Document 01's table "Refusal numbers", with those of document 02: what a refusal tells the caller.
+-- The refusal numbers, rules N of docs/RULES.md: what a refusal tells the caller.
 use Rattle.std.specs.Prelude.{ℕ}
 use Rattle.refusal.specs.declared.Refusal.{Refusal}
 use Rattle.refusal.specs.declared.Refusal.TheVariants.{Room, Table, Interface, Clock, Length, Address, Opcode, Rcode, Counts, Question, Class, NotOurs, Stopped, Notification, Unmatched, Own, Tentative, Records, Busy, Settings, TooSoon, SeveralLabels}
@@ -22,7 +22,6 @@ report_of Question = number 10
 report_of Class = number 11
 report_of NotOurs = number 12
 report_of Stopped = number 13
--- document 01 calls a conflict notification a notice
 report_of Notification = number 14
 report_of Unmatched = number 15
 report_of Own = number 16

@@ -1,10 +1,10 @@
-// Refusals of document 01. The algebra of checks made in order stands in specs/Checks.antt.
+// Refusals. The algebra of checks made in order stands in specs/Checks.antt.
 #![tactic(auto)]
 
 ghost use Rattle.std.specs.Prelude.{◌≡◌};
 ghost use Rattle.refusal.specs.Numbers.{number_of};
 
-// Why a call was refused, in the order of document 01's table; document 02 adds the last two.
+// Why a call was refused, in the order of their numbers.
 #[derive(Clone, Copy)]
 pub enum Refusal {
     Room,
@@ -32,7 +32,7 @@ pub enum Refusal {
 }
 
 impl Refusal {
-    // The refusal's number in document 01 or 02.
+    // The refusal's number: rules N of docs/RULES.md.
     pub fn number(self) -> u8
         ensures { result ≡ number_of self }
     {

@@ -1,4 +1,4 @@
--- DEMAND 3 holds of the definitions that the contracts of the four calls cite.
+-- The claim of specs/Link.antt holds of the definitions that the contracts of the four calls cite.
 use Rattle.uniqueness.specs.Link.{Demand3}
 use Rattle.uniqueness.proofs.Obligations.Met.{obligations}
 use Rattle.uniqueness.proofs.Theorem.Attained.{demand_3}

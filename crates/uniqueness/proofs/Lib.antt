@@ -1,4 +1,4 @@
--- DEMAND 3, the proof. The statement is specs/Link.antt; file Demand3 proves it.
+-- One owner of a name on a link, the proof. The statement is specs/Link.antt; file Demand3 proves it.
 --
 -- The argument. Forget the octets: each host's claim to the name is off, verifying (with its queries sent and the time when it is due),
 -- unique or stopped. A host that verifies stops for a reply of a unique host, and for one of a host that verifies and has a lower

@@ -1,4 +1,4 @@
--- What the theorem needs of the calls' definitions, as facts about explicit hosts. Demand 3 follows from them (Theorem/Attained); that they
+-- What the theorem needs of the calls' definitions, as facts about explicit hosts. The claim follows from them (Theorem/Attained); that they
 -- hold, from the laws of the crate host alone, is shown in the files below: Met collects them.
 -- Every state here is one that a host of the link can have: set up, all names Off but the one, and that one in a given state.
 use Prim.Native.Nat.{ℕ, suc, ◌+◌, ◌%◌, ◌≤◌, ◌<◌}

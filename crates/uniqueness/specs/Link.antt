@@ -1,5 +1,5 @@
--- DEMAND 3, the statement. In quotation marks: the order's demand 3 and document 01, "The hall of demand 3".
--- Our terms: the hall is a link; checking is verifying; to hold the name is to own it; what a copy of a host tells is observed by a probe.
+-- One owner of a name on a link, the statement: rules H of docs/RULES.md. In quotation marks: what the customer asked for, in its words, where
+-- the hall is a link; checking is verifying; to hold the name is to own it; what a copy of a host tells is observed by a probe.
 use Rattle.std.specs.Prelude.{ℕ, zero, suc, ◌+◌, ◌%◌, ◌≤◌, ◌<◌, max, ◌≡◌, ◌≢◌, ◌⊎◌, Bool, true, false, cond, not, get_or, take, length, eqb}
 use mathlib.Core.List.{List, [], ◌∷◌, ◌++◌, map, Memᴰ}
 use Rattle.host.specs.Bounds.{room as room_octets, latest as latest_time}
@@ -81,7 +81,7 @@ pub record Call : Type 0 where
   pub time : ℕ
   pub lent : Lent
 
--- what an outcome is on the link: a refusal with document 01's number, a query or a reply of so many octets, or nothing sent
+-- what an outcome is on the link: a refusal with its number, a query or a reply of so many octets, or nothing sent
 pub data Sort : Type 0 where
   refused query reply : ℕ → Sort
   silent : Sort
@@ -373,7 +373,7 @@ fresh s = (set_up s.table s.settings s.time s.id).host
 abbrev pub first : Link → Moment
 first L = record { hosts = λ k. fresh (L.station k); time = latest L.station L.count; started = []; queried = λ k. 0 }
 
--- 10. DEMAND 3
+-- 10. The claim
 
 -- what holds at the end m of a list
 pub record OneOwner (L : Link) (m : Moment) : Type 0 where

@@ -1,4 +1,4 @@
--- When each refusal number is given: for set-up, start, tick and receive a list of number and condition, in document 01's order for the
+-- When each refusal number is given: for set-up, start, tick and receive a list of number and condition, in the order of rules F for the
 -- call. That a call gives a number exactly as its list says is shown in proofs/Refusals.antt and proofs/RefusedArrivals.antt.
 use Rattle.std.specs.Prelude.{ℕ, ◌+◌, ◌<◌, ◌≤◌, ◌≡◌, ◌≢◌, ◌⊎◌, List, [], ◌∷◌, true, cond, length, get_or}
 use Rattle.octets.specs.Octets.{part_of}
@@ -44,7 +44,7 @@ early_cases h table i time out rest =
     ∷ case 4 ((281474976710655 < time) ⊎ (time < h.clock))
     ∷ rest
 
--- Start of the k-th name: 1 to 4, 12, 19, and of document 02 21.
+-- Start of the k-th name: 1 to 4, 12, 19, 21.
 abbrev pub start_cases : Host → List ℕ → ℕ → ℕ → ℕ → List ℕ → List Case
 start_cases h table i k time out =
     early_cases h table i time out
@@ -80,7 +80,7 @@ abbrev pub IsBadAddress : Host → Arrival → Type 0 → Type 0
 IsBadAddress h a wrong =
     (a.from.address.family ≢ (setting_of h a.interface).family) ⊎ (a.to.family ≢ (setting_of h a.interface).family) ⊎ wrong
 
--- 14: a conflict notification (document 01: notice), C set, and the name is not Unique or the source is one of our addresses
+-- 14: a conflict notification, C set, and the name is not Unique or the source is one of our addresses
 abbrev pub IsBadNotification : Host → Arrival → Type 0
 IsBadNotification h a =
     ((header_of a.datagram).conflict ≡ true)

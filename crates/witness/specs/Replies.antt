@@ -1,4 +1,4 @@
--- The reply, whole, in plain terms: entries of the table, octets and states, with the papers' own numbers. That receive gives it is shown
+-- The reply, whole, in plain terms: entries of the table, octets and states, with the rules' own numbers. That receive gives it is shown
 -- in proofs/Replies.antt.
 use Rattle.std.specs.Prelude.{ℕ, ◌+◌, ◌/◌, ◌%◌, ◌<◌, ◌≤◌, ◌≡◌, ◌↔◌, List, [], ◌∷◌, ◌++◌, map, Bool, true, false, cond, length, get_or, take, drop, eqb}
 use Rattle.octets.specs.Tests.{◌or◌}

@@ -1,4 +1,4 @@
--- What a call leaves and sends, whole, and the table of states by events, in plain terms and the papers' numbers. It is shown in
+-- What a call leaves and sends, whole, and the table of states by events, in plain terms and the rules' numbers. It is shown in
 -- proofs/States.antt (starts, queries and responses) and proofs/Times.antt (ticks and set-up).
 use Rattle.std.specs.Prelude.{ℕ, ◌+◌, ◌-◌, ◌<◌, ◌≤◌, ◌≡◌, ◌≢◌, List, [], ◌∷◌, ◌++◌, Bool, true, false, length, take, drop}
 use Rattle.octets.specs.Addresses.{Below}

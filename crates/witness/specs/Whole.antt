@@ -1,4 +1,4 @@
--- Each call, whole and in plain terms: what a result d of it is, with the papers' own numbers and without the definition of the call. That
+-- Each call, whole and in plain terms: what a result d of it is, with the rules' own numbers and without the definition of the call. That
 -- the call gives such a result, and that no other result is such, is shown in proofs/WholeStart.antt (set-up and start),
 -- proofs/WholeTick.antt and proofs/WholeReceive.antt.
 use Rattle.std.specs.Prelude.{ℕ, ◌+◌, ◌-◌, ◌<◌, ◌≡◌, ◌↔◌, List, [], ◌∷◌, true, false, length, get_or, take, drop}

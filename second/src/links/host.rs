@@ -10,7 +10,7 @@ pub const LATEST: u64 = (1 << 48) - 1;
 /// Every buffer has room for whatever a host may send.
 pub const LEAST_ROOM: u32 = 512;
 
-/// The state of the name on the used interface, as document 01 has it told. Defending needs a query with C set, which
+/// The state of the name on the used interface, as a caller is told. Defending needs a query with C set, which
 /// no host sends here.
 #[derive(Clone, Copy, PartialEq, Eq, Debug)]
 pub enum State {

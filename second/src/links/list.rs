@@ -1,4 +1,4 @@
-//! Random lists of starts and ticks for the hosts of a link, which keep document 01's rules for a hall or break one on
+//! Random lists of starts and ticks for the hosts of a link, which keep the rules for a link or break one on
 //! purpose.
 
 use super::host::{State, LATEST};

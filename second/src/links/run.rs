@@ -24,7 +24,7 @@ pub struct States {
     pub serial: Option<Vec<State>>,
 }
 
-/// A way in which the states are not as demand 3 claims. Even without a premise the rules do not let it come about that
+/// A way in which the states are not as is claimed. Even without a premise the rules do not let it come about that
 /// none holds the name: what stops a host is the reply of another that goes on. The lists run until none is checking.
 #[derive(Clone, Copy, PartialEq, Eq, Debug)]
 pub enum Way {

@@ -73,7 +73,7 @@ fn other_name(random: &mut Random, name: &[u8], taken: &mut Vec<Vec<u8>>) -> Vec
             0 => random_name(random),
             _ => close_name(random, name),
         };
-        // Folding is by ASCII alone, as in document 01.
+        // Folding is by ASCII alone, rule M10.
         let folded = other.to_ascii_lowercase();
         if !taken.contains(&folded) {
             taken.push(folded);

@@ -1,5 +1,5 @@
 -- The third part: on every link each host can be the owner, where three intervals are left of the clock's range. And the three parts together:
--- DEMAND 3 follows from the obligations.
+-- the claim follows from the obligations.
 use mathlib.Core.Bool.{Bool, true, false}
 use mathlib.Core.List.{List}
 use Prim.Native.Nat.{ℕ, ◌+◌, ◌≤◌, ◌<◌}
