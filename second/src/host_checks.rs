@@ -1,4 +1,4 @@
-//! The checks of a host's calls: for each call a table of refusal numbers and tests, in the paper's order.
+//! The checks of a host's calls: for each call a table of refusal numbers and tests, in the order of rules F.
 
 use crate::calls::Setting;
 use crate::checks::{Arrival, Given};
