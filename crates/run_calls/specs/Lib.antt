@@ -1,3 +1,4 @@
 pub mod Entries
 pub mod Lines
 pub mod Lookups
+pub mod Pieces

@@ -1,6 +1,10 @@
 // The lookups of a run: one in each slot, and the settings that the next one is started with.
-ghost use Rattle.std.specs.Prelude.{◌≡◌};
-ghost use Rattle.run_calls.specs.Lookups.{fresh_lookups, with_settings, after_entry};
+ghost use Rattle.std.specs.Prelude.{◌≡◌, length};
+ghost use Rattle.lookup.specs.Outcomes.{done_by};
+ghost use Rattle.run_calls.specs.Entries.{slot_of};
+ghost use Rattle.run_calls.specs.Lookups.{fresh_lookups, with_settings, after_entry, call_of};
+ghost use Rattle.run_calls.specs.Lookups.{served, after_call, done_line, taken, taken_line};
+ghost use Rattle.run_calls.specs.Pieces.{written_so, put_pieces};
 
 use crate::entry::{Entry, Kind};
 use crate::{entry, line};
@@ -67,7 +71,9 @@ fn call(
     lookup: Lookup,
     body: &[u8],
     out: &mut [u8],
-) -> Step {
+) -> Step
+    ensures { done_by result out.new ≡ call_of kind settings lookup body.now out.old }
+{
     let p = entry::prefix_of(body);
     match kind {
         Kind::Ask => {
@@ -99,7 +105,13 @@ fn serve(
     out: &mut [u8],
     text: &mut [u8],
     used: usize,
-) -> Asked {
+) -> Asked
+    ensures lookups_after { let d = served kind lookups body.now (length out.old) in
+        result.lookups ≡ after_call lookups (slot_of body.now) d }
+    ensures text_after { let d = served kind lookups body.now (length out.old) in
+        written_so text.new result.used ≡ put_pieces (written_so text.old used)
+        (done_line n kind body.now d) }
+{
     let p = entry::prefix_of(body);
     let room = entry::room(p.room, out.len());
     let lent = &mut out[..room];
@@ -125,7 +137,11 @@ pub fn take(
     out: &mut [u8],
     text: &mut [u8],
     used: usize,
-) -> Asked {
+) -> Asked
+    ensures lookups_after { result.lookups ≡ taken kind lookups body.now (length out.old) }
+    ensures text_after { written_so text.new result.used ≡ put_pieces (written_so text.old used)
+        (taken_line n kind lookups body.now (length out.old)) }
+{
     match kind {
         Kind::Settings => {
             let lookups = lookups.with_settings(entry::settings(body));
