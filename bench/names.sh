@@ -18,7 +18,7 @@ cat >"$work/crates/compare_names/src/lib.rt" <<'END'
 // Two ways to compare the names at two offsets.
 #![tactic(auto)]
 
-use names::{Name, RecordNameRead};
+use names::Name;
 
 #[unsafe(no_mangle)]
 pub extern "C" fn names_side_by_side(s: &[u8], p: usize, t: &[u8], q: usize) -> bool {
@@ -30,11 +30,11 @@ pub extern "C" fn names_expanded(s: &[u8], p: usize, t: &[u8], q: usize) -> bool
     let mut a = [0u8; Name::LONGEST];
     let mut b = [0u8; Name::LONGEST];
     let x = names::expand_name(s, p, &mut a);
-    let RecordNameRead::Good(m) = x else {
+    let Some(m) = x else {
         return false;
     };
     let y = names::expand_name(t, q, &mut b);
-    let RecordNameRead::Good(n) = y else {
+    let Some(n) = y else {
         return false;
     };
     names::same_name(octets::part(&a, 0, m.len), octets::part(&b, 0, n.len))

@@ -83,13 +83,13 @@ class Source:
             owner = None
             for line in path.read_text(encoding="utf-8").splitlines():
                 if line and not line[0].isspace():
-                    head = re.match(r"impl (\w+)", line)
+                    head = re.match(r"impl(?:<[^>]*>)? (\w+)", line)
                     owner = head.group(1) if head else None
                     top = re.match(r'(?:pub )?(?:extern "C" )?(?:fn|struct|enum|const) (\w+)', line)
                     if top:
                         self.free.add(top.group(1))
                 elif owner:
-                    item = re.match(r"\s+(?:pub )?(?:fn|const) (\w+)", line)
+                    item = re.match(r"\s+(?:pub(?:\(crate\))? )?(?:fn|const) (\w+)", line)
                     if item:
                         self.within.setdefault(owner, set()).add(item.group(1))
 
@@ -160,7 +160,8 @@ class Check:
         code, function = call.split("::")
         meaning, file, name = re.split("[/ ]", definition)
         source = (CRATES / code / "src" / "lib.rt").read_text(encoding="utf-8")
-        contract = re.search(rf"pub fn {function}\(.*?\n    ensures {{ done_by result .*? ≡ (\w+) [^\n]*\n{{", source, re.S)
+        clause = r"(?:done )?\{\s*(?:done_after (?:host|lookup)\.new result out\.new|set_up_after result|started_after result out\.new)\s*≡ (\w+) "
+        contract = re.search(rf"pub fn {function}\((?:(?!\npub fn ).)*?\n    ensures {clause}", source, re.S)
         used = re.search(rf"ghost use Rattle\.{meaning}\.specs\.{file}\.{{[^}}]*\b{name}(?: as (\w+))?[,}}]", source)
         if not contract or not used or contract.group(1) != (used.group(1) or name):
             self.wrong(line, f"the ensures of {call} is no equation with {definition}")

@@ -26,7 +26,8 @@ KEYWORDS = set("as break const continue else enum false fn for if impl in let lo
                "true use while where dyn move u8 u16 u32 u64 usize bool".split())
 
 # A comment that says why a place stays has one of these phrases. It stands right above the place or above its function.
-REASON = re.compile(r"plainer|[Tt]ried:|[Nn]o heap|[Ff]ixed memory|C interface|may not change|README (names|gives)")
+REASON = re.compile(r"plainer|[Tt]ried:|[Nn]o heap|[Ff]ixed memory|C interface|may not change|README (names|gives)|"
+                    r"[Nn]o (Option|Result|enum|vector)|stays a number|this promises|A loop, as in")
 
 
 # ---- reading the sources ----------------------------------------------------------------------------------------------------
@@ -210,7 +211,7 @@ class Place:
         for row in rows:
             said, k = [self.file.lines[row - 1].partition("//")[2]], row - 2
             while k >= 0 and re.match(r"\s*(//|#)", self.file.lines[k]):
-                said.append(self.file.lines[k])
+                said.insert(0, self.file.lines[k].strip().lstrip("/").strip())
                 k -= 1
             if REASON.search(" ".join(said)):
                 return True

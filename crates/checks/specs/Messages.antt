@@ -1,20 +1,18 @@
 -- What the code reads of a datagram, in two steps: its header, after check 5; its question, after the checks 6 to 11. The checks are those of
 -- the crate host. One that takes responses alone refuses a query with 15 between the two.
-use Rattle.std.specs.Prelude.{ℕ, List, Bool, cond, not, ltb, eqb}
+use Rattle.std.specs.Prelude.{ℕ, List, Bool, cond, not, ltb, eqb, None, Option, Some, Result, Ok, Err}
 use Rattle.octets.specs.Bounds.{interfaces}
 use Rattle.octets.specs.Tests.{◌and◌}
 use Rattle.octets.specs.declared.Address.{Address}
 use Rattle.refusal.specs.Numbers.{Report, number, report_of}
 use Rattle.refusal.specs.Checks.{Checks, fail, pass, Verdict, refused, passed, verdict}
+use Rattle.refusal.specs.declared.Refusal.{Refusal}
 use Rattle.message.specs.Bounds.{header_octets}
 use Rattle.message.specs.declared.Header.{Header}
-use Rattle.message.specs.declared.HeaderRead.{HeaderRead}
-use Rattle.message.specs.declared.HeaderRead.TheVariants.{Good, Short}
 use Rattle.message.specs.declared.Question.{Question}
 use Rattle.message.specs.Header.{header_of}
 use Rattle.message.specs.Question.{question_at, question_or}
 use Rattle.host.specs.Receive.{bad_length, bad_address, bad_class, message_checks}
-use Rattle.checks.specs.declared.MessageRead.{MessageRead}
 use Rattle.checks.specs.declared.Datagram.{Datagram}
 
 -- the place of an interface in the state: a number above the last counts as 0
@@ -22,8 +20,8 @@ abbrev pub slot_of : ℕ → ℕ
 slot_of i = cond (ltb i interfaces) i 0
 
 -- none where the length is bad
-unfoldable pub header_in : List ℕ → HeaderRead
-header_in s = cond (bad_length s) Short (Good (header_of s))
+unfoldable pub header_in : List ℕ → Option Header
+header_in s = cond (bad_length s) None (Some (header_of s))
 
 -- 8, and 11
 abbrev pub failed : Bool → ℕ → Bool
@@ -51,8 +49,9 @@ unfoldable pub message_read : ℕ → ℕ → Address → Header → List ℕ �
 message_read family source to x s = read_if (verdict (address_checks family source to x s pass)) s
 
 -- what the code's reading says
-abbrev pub read_by : MessageRead → Reading
-read_by m = cond m.refused (refuses (report_of m.refusal)) (reads m.question)
+abbrev pub read_by : Result Question Refusal → Reading
+read_by (Ok q) = reads q
+read_by (Err why) = refuses (report_of why)
 
 -- ---- a datagram, in both steps
 
@@ -80,5 +79,6 @@ unfoldable pub datagram_read : Bool → ℕ → ℕ → Address → List ℕ →
 datagram_read responses family source to s = datagram_if (verdict (read_checks responses family source to s pass)) s
 
 -- what the code's reading says
-abbrev pub datagram_by : Datagram → DatagramReading
-datagram_by d = cond d.refused (refused_so (report_of d.refusal)) (read_so d.header d.question)
+abbrev pub datagram_by : Result Datagram Refusal → DatagramReading
+datagram_by (Ok d) = read_so d.header d.question
+datagram_by (Err why) = refused_so (report_of why)

@@ -1,5 +1,5 @@
 -- Every case of the list holds, by computation.
-use mathlib.Core.Path.{refl}
+use Rattle.std.proofs.Common.{refl}
 use Rattle.octets.specs.Octets.{part_of, splice, put}
 use Rattle.octets.specs.Addresses.{same_octets, same_address, group_of, is_group, group_endpoint, has_address, ours_among}
 use Rattle.refusal.specs.Checks.{verdict}

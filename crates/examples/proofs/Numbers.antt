@@ -1,5 +1,5 @@
 -- The constants of the definitions are the numbers of docs/RULES.md, by computation.
-use mathlib.Core.Path.{refl}
+use Rattle.std.proofs.Common.{refl}
 use Rattle.octets.specs.Addresses.{group_of}
 use Rattle.names.specs.Folding.{folded}
 use Rattle.name_table.specs.Kinds.{kind_of}

@@ -1,5 +1,5 @@
 -- The cases of specs/Order.antt, by computation.
-use mathlib.Core.Path.{refl, ap}
+use Rattle.std.proofs.Common.{refl, ap}
 use Rattle.octets.specs.Octets.{part_of, splice, put}
 use Rattle.octets.specs.Addresses.{group_of, group_endpoint}
 use Rattle.octets.proofs.Tests.{never}

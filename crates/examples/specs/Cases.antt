@@ -89,7 +89,7 @@ host state =
       interfaces =
           record {
             setting = record { family = 4; address = ours; interval = 100 };
-            names = record { state = state } ∷ replicate 7 off_name;
+            names = state ∷ replicate 7 off_name;
           }
           ∷ replicate 3 (fresh_interface zero_setting);
       clock = 7;

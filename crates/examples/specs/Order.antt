@@ -20,7 +20,7 @@ abbrev pub port : ℕ → NameState → Interface
 port n state =
     record {
       setting = record { family = 4; address = 0xc0 ∷ 0x00 ∷ 0x02 ∷ n ∷ replicate 12 0; interval = 100 };
-      names = record { state = state } ∷ replicate 7 off_name;
+      names = state ∷ replicate 7 off_name;
     }
 
 abbrev pub two_ports : NameState → NameState → ℕ → Host

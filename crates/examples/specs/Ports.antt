@@ -18,7 +18,7 @@ office = 0xc6 ∷ 0x33 ∷ 0x64 ∷ 0x11 ∷ []
 -- an interface with an address and 100 ms, where name 0 is Unique
 abbrev pub port : List ℕ → Interface
 port address =
-    record { setting = record { family = 4; address = address; interval = 100 }; names = record { state = Unique } ∷ replicate 7 off_name }
+    record { setting = record { family = 4; address = address; interval = 100 }; names = Unique ∷ replicate 7 off_name }
 
 -- interface 0 is the hall's, 1 the office's, the others are unused
 abbrev pub two_ports : Host

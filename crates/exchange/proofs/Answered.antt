@@ -1,11 +1,7 @@
 -- A reply that our own host sends to a lookup's query, with T and C clear, ends that lookup with the reply's ANCOUNT and the offset of its
 -- first answer.
-use Prim.Native.Nat.{ℕ, suc, ◌+◌}
-use mathlib.Core.Path.{◌≡◌, refl, sym, ap, ◌∙◌, subst}
-use mathlib.Core.List.{List, [], ◌∷◌, ◌++◌, map, append-nil, append_assoc}
-use mathlib.Core.Bool.{true, false}
-use native.Mathlib.Omega.{arith}
-use lib.ListN.{length, take, drop, length-map, length-take}
+use Rattle.std.proofs.Common.{ℕ, suc, ◌+◌, ◌≡◌, refl, sym, ap, ◌∙◌, subst, List, [], ◌∷◌, ◌++◌, map, append-nil, append_assoc, true, false, arith, length, take, drop, length-take}
+use Rattle.std.proofs.lemmas.List.{length-map}
 use Rattle.octets.specs.Octets.{part_of}
 use Rattle.octets.specs.Words.{big_at, big_octets}
 use Rattle.names.specs.Names.{encode}

@@ -1,10 +1,5 @@
 -- A name that a reply of our own host stops is left alone for 30 seconds, whether the reply has answers or not.
-use Prim.Native.Nat.{ℕ, ◌+◌, ◌*◌}
-use mathlib.Core.Path.{◌≡◌, refl, sym, ap, ◌∙◌, subst}
-use mathlib.Core.Logic.{◌≢◌}
-use mathlib.Core.List.{List, [], ◌∷◌, map}
-use native.Mathlib.Omega.{arith}
-use lib.ListN.{length, take}
+use Rattle.std.proofs.Common.{ℕ, ◌+◌, ◌*◌, ◌≡◌, refl, sym, ap, ◌∙◌, subst, ◌≢◌, List, [], ◌∷◌, map, arith, length, take}
 use Rattle.name_table.specs.Entries.{Data, answer_of, valid_for}
 use Rattle.message.specs.declared.Question.{Question}
 use Rattle.message.specs.declared.Header.{Header}

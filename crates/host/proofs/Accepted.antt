@@ -1,9 +1,5 @@
 -- A call is refused or accepted, and an accepted call has passed every check.
-use Prim.Native.Nat.{ℕ}
-use mathlib.Core.Path.{◌≡◌, refl, ap}
-use mathlib.Core.Logic.{◌⊎◌, inl, inr, ⊎_elim}
-use mathlib.Core.List.{List}
-use mathlib.Core.Bool.{false}
+use Rattle.std.proofs.Common.{ℕ, ◌≡◌, refl, ap, ◌⊎◌, inl, inr, ⊎_elim, List, false}
 use Rattle.octets.proofs.Tests.{never}
 use Rattle.refusal.specs.Numbers.{Report}
 use Rattle.refusal.specs.Checks.{Checks, pass, Verdict, refused as refused_by, passed, verdict, Clear}

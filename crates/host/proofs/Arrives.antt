@@ -1,20 +1,12 @@
 -- The checks 1 to 11 of a datagram: they pass exactly where a query or a response arrives as specs/ExactlyWhen.antt says, and the checks
 -- of its name then decide.
-use Prim.Native.Nat.{ℕ}
-use mathlib.Core.Path.{◌≡◌, sym, ap, subst}
-use mathlib.Core.Logic.{◌⊎◌}
-use mathlib.Core.List.{List}
-use mathlib.Core.Bool.{Bool, true, false, cond, not}
-use lib.ListN.{length}
-use lib.Dec.{ltb, eqb}
-use borrow.Author.Tests.{eqb-true, eq-eqb}
+use Rattle.std.proofs.Common.{None, Some, ℕ, ◌≡◌, sym, ap, subst, ◌⊎◌, List, Bool, true, false, cond, not, length, ltb, eqb, eqb-true, eq-eqb}
 use Rattle.octets.specs.Tests.{◌and◌, ◌or◌}
 use Rattle.octets.specs.Addresses.{is_group}
 use Rattle.octets.proofs.Tests.{not_below, not_not, neither, only_first}
 use Rattle.refusal.specs.Checks.{Checks, Verdict, Gives, next, Clear}
 use Rattle.refusal.proofs.Checks.{gives}
 use Rattle.name_table.specs.Check.{Held, check_table, names_in, is_found, number_or}
-use Rattle.name_table.specs.declared.Found.TheVariants.{At, Nothing}
 use Rattle.message.specs.Bounds.{class_in}
 use Rattle.message.specs.declared.Question.{Question}
 use Rattle.message.specs.Question.{question_or, is_bad_question}
@@ -116,7 +108,7 @@ module _ (h : Host) (a : Arrival) where
       names_are : names_in (check_table a.table) ≡ names
       names_are = ap names_in w.called.good_table
 
-      pub asks_none : AsksForNone a names q → found a ≡ Nothing
+      pub asks_none : AsksForNone a names q → found a ≡ None
       asks_none f = let n = names_are in let e = question_is w in cc f
 
       -- every check that the two kinds of message share; the others are handed in
@@ -133,7 +125,7 @@ module _ (h : Host) (a : Arrival) where
           (next class g)))))))
 
       module _ (k : ℕ) (f : AsksFor a names q k) where
-        found_is : found a ≡ At k
+        found_is : found a ≡ Some k
         found_is = let n = names_are in let e = question_is w in cc f
 
         pub is_found_lem : is_found (found a) ≡ true

@@ -1,12 +1,5 @@
 -- The checks 1 to 4: they pass exactly where a call is made well, and each refuses where its condition holds.
-use Prim.Native.Nat.{ℕ, ◌<◌, ◌≤◌}
-use mathlib.Core.Path.{◌≡◌, ap}
-use mathlib.Core.Logic.{inl, inr, ⊎_elim}
-use mathlib.Core.List.{List}
-use mathlib.Core.Bool.{Bool, true, false, not}
-use lib.ListN.{length}
-use lib.Dec.{ltb, leb}
-use borrow.Author.Tests.{lt-ltb, le-leb}
+use Rattle.std.proofs.Common.{ℕ, ◌<◌, ◌≤◌, ◌≡◌, ap, inl, inr, ⊎_elim, List, Bool, true, false, not, length, ltb, leb, lt-ltb, le-leb}
 use Rattle.octets.specs.Bounds.{interfaces, ipv4, ipv6}
 use Rattle.octets.specs.Addresses.{is_family}
 use Rattle.octets.proofs.Tests.{either, either_number, not_below, not_upto, not_not, neither, not_is}

@@ -1,12 +1,6 @@
 -- What a call has to do with the clock. A call whose time is before it is refused; and in no other way does a call look at it: whether the
 -- clock stands long before its time or at its time makes no difference.
-use Prim.Native.Nat.{ℕ, ◌<◌, ◌≤◌}
-use mathlib.Core.Path.{◌≡◌, refl, sym, ap, ◌∙◌, subst}
-use mathlib.Core.Logic.{◌↔◌}
-use mathlib.Core.List.{List}
-use mathlib.Core.Bool.{Bool}
-use lib.ListN.{length}
-use lib.Dec.{ltb}
+use Rattle.std.proofs.Common.{ℕ, ◌<◌, ◌≤◌, ◌≡◌, refl, sym, ap, ◌∙◌, subst, ◌↔◌, List, Bool, length, ltb}
 use Rattle.octets.specs.Tests.{◌or◌}
 use Rattle.octets.specs.declared.Endpoint.{Endpoint}
 use Rattle.octets.proofs.Tests.{split, never, below_number}

@@ -1,22 +1,14 @@
 -- Single tests of the calls hold exactly where their plain conditions do.
-use Prim.Native.Nat.{ℕ, ◌<◌, ◌≤◌}
-use mathlib.Core.Path.{◌≡◌, refl, ap, ◌∙◌}
-use mathlib.Core.Logic.{◌↔◌, ◌≢◌, ◌⊎◌, inl, inr, ⊎_elim}
-use mathlib.Core.Bool.{Bool, true, false, not}
-use native.Mathlib.Omega.{arith}
-use lib.Dec.{eqb}
-use borrow.Author.Tests.{ltb-true, ltb-false, lt-ltb, le-ltb, leb-true, le-leb, eqb-true, eqb-false, eq-eqb}
+use Rattle.message.specs.declared.Question.{Question}
+use Rattle.std.proofs.Common.{None, Option, Some, ℕ, ◌<◌, ◌≤◌, ◌≡◌, refl, ap, ◌∙◌, ◌↔◌, ◌≢◌, ◌⊎◌, inl, inr, ⊎_elim, Bool, true, false, not, arith, eqb, ltb-true, ltb-false, lt-ltb, le-ltb, leb-true, le-leb, eqb-true, eq-eqb}
+use Rattle.std.proofs.lemmas.Bool.{eqb-false}
 use Rattle.octets.specs.Tests.{◌and◌, ◌or◌}
 use Rattle.octets.specs.Addresses.{below_address}
 use Rattle.octets.specs.declared.Address.{Address}
 use Rattle.octets.specs.declared.Setting.{Setting}
 use Rattle.octets.proofs.Tests.{split, both, never, same_number, either_number, not_not, not_is}
-use Rattle.name_table.specs.declared.Found.{Found}
-use Rattle.name_table.specs.declared.Found.TheVariants.{At, Nothing}
 use Rattle.name_table.specs.Check.{Checked, good, bad, is_bad, names_in, is_found, number_or}
 use Rattle.message.specs.Bounds.{class_in, type_any}
-use Rattle.message.specs.declared.QuestionRead.{QuestionRead}
-use Rattle.message.specs.declared.QuestionRead.TheVariants.{Good, Bad}
 use Rattle.message.specs.Question.{question_or, is_bad_question}
 use Rattle.host.specs.Bounds.{any_class}
 use Rattle.host.specs.State.{Phase, off, verifying, unique, stopped, HasStopped, is, interval_of, IsInterval, short_interval, long_interval}
@@ -34,17 +26,17 @@ pub good_is : (c : Checked) → is_bad c ≡ false → c ≡ good (names_in c)
 good_is (good hs) e = refl
 good_is (bad at) e = never refl e
 
-pub question_good : (r : QuestionRead) → is_bad_question r ≡ false → r ≡ Good (question_or r)
-question_good (Good q) e = refl
-question_good Bad e = never refl e
+pub question_good : (r : Option Question) → is_bad_question r ≡ false → r ≡ Some (question_or r)
+question_good (Some q) e = refl
+question_good None e = never refl e
 
-pub found_at : (f : Found) → is_found f ≡ true → f ≡ At (number_or f)
-found_at (At k) e = refl
-found_at Nothing e = never e refl
+pub found_at : (f : Option ℕ) → is_found f ≡ true → f ≡ Some (number_or f)
+found_at (Some k) e = refl
+found_at None e = never e refl
 
-pub found_none : (f : Found) → is_found f ≡ false → f ≡ Nothing
-found_none (At k) e = never refl e
-found_none Nothing e = refl
+pub found_none : (f : Option ℕ) → is_found f ≡ false → f ≡ None
+found_none (Some k) e = never refl e
+found_none None e = refl
 
 pub class_is : (c : ℕ) → (bad_class c ≡ false) ↔ ((c ≡ class_in) ⊎ (c ≡ any_class))
 class_is c = (λ e. (either_number c class_in any_class).0 ((not_not _).0 e), λ s. (not_not _).1 ((either_number c class_in any_class).1 s))

@@ -1,11 +1,6 @@
 -- A reply goes out, a defence goes out, a name stops, a response is kept: exactly when specs/ExactlyWhen.antt says. That they do then is
 -- shown in proofs/Received.antt; here, that they do only then.
-use Prim.Native.Nat.{ℕ}
-use mathlib.Core.Path.{◌≡◌, refl, ap, ◌∙◌, subst}
-use mathlib.Core.Logic.{◌↔◌}
-use mathlib.Core.Bool.{Bool, true, false, cond, not}
-use native.Mathlib.Omega.{arith}
-use lib.ListN.{length}
+use Rattle.std.proofs.Common.{ℕ, ◌≡◌, refl, ap, ◌∙◌, subst, ◌↔◌, Bool, true, false, cond, not, arith, length}
 use Rattle.octets.specs.Tests.{◌or◌}
 use Rattle.octets.proofs.Tests.{never, not_not, only_first}
 use Rattle.refusal.specs.Numbers.{Report}

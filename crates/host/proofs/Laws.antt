@@ -1,15 +1,8 @@
 -- What holds of every call: a refusal changes nothing; an accepted call sets the clock; at most one name changes, and no setting; and what
 -- a call gives depends on its own interface's names alone.
-use Prim.Native.Nat.{ℕ, zero, suc, ◌<◌, ◌≤◌}
-use mathlib.Core.Path.{◌≡◌, refl, sym, ap, ◌∙◌, subst}
-use mathlib.Core.Logic.{◌≢◌}
-use mathlib.Core.List.{List, [], ◌∷◌}
-use mathlib.Core.Bool.{Bool, true, false}
-use native.Mathlib.Omega.{arith}
-use lib.ListN.{length, get_or, set, length-map}
-use lib.Seq.{get_or-set_same, get_or-set_other, set_out, map-set_same, ext_get_or}
-use lib.Dec.{leb, ltb}
-use borrow.Author.Tests.{leb-true, leb-false}
+use Rattle.std.proofs.Common.{ℕ, zero, suc, ◌<◌, ◌≤◌, ◌≡◌, refl, sym, ap, ◌∙◌, subst, ◌≢◌, List, [], ◌∷◌, Bool, true, false, arith, length, get_or, set, get_or-set_same, get_or-set_other, ext_get_or, leb, ltb, leb-true, leb-false}
+use Rattle.std.proofs.lemmas.List.{length-map}
+use Rattle.std.proofs.Math.Seq.{set_out, map-set_same}
 use Rattle.octets.specs.Addresses.{unused}
 use Rattle.octets.specs.declared.Endpoint.{Endpoint}
 use Rattle.octets.specs.declared.Setting.{Setting}
@@ -29,7 +22,6 @@ use Rattle.host.specs.Receive.{Arrival, header, question, name_number, receive_c
 use Rattle.host.specs.Laws.{Unchanged, Accepted, OnlyChanges, ChangesOne, SameHere, SameDone, numbers_of, InOrder}
 use Rattle.host.specs.declared.NameState.{NameState}
 use Rattle.host.specs.declared.NameState.TheVariants.{Off, Verifying, Unique, Defending, Stopped, Shared}
-use Rattle.host.specs.declared.Name.{Name}
 use Rattle.host.specs.declared.Interface.{Interface}
 use Rattle.host.specs.declared.Host.{Host}
 
@@ -109,20 +101,20 @@ receive_does h a = go (verdict (receive_checks h a))
 pub other_names : (h : Host) (i k time : ℕ) (s : NameState) (j : ℕ) → j ≢ k → state_of (with_state h i k s time) i j ≡ state_of h i j
 other_names h i k time s j n =
     split (leb (length h.interfaces) i)
-    (λ p. ap (λ (l : List Interface). (get_or (get_or l i absent).names j off_name).state) (set_out h.interfaces i _ (leb-true _ _ p)))
-    (λ p. ap (λ (x : Interface). (get_or x.names j off_name).state) (get_or-set_same h.interfaces i _ absent (leb-false _ _ p))
-    ∙ ap (λ (x : Name). x.state) (get_or-set_other (interface_of h i).names k j _ off_name n))
+    (λ p. ap (λ (l : List Interface). (get_or (get_or l i absent).names j off_name)) (set_out h.interfaces i _ (leb-true _ _ p)))
+    (λ p. ap (λ (x : Interface). (get_or x.names j off_name)) (get_or-set_same h.interfaces i _ absent (leb-false _ _ p))
+    ∙ (get_or-set_other (interface_of h i).names k j _ off_name n))
 
 -- a name that has a place holds its new state
 module _ (h : Host) (i k : ℕ) (inside : i < length h.interfaces) (place : k < length (interface_of h i).names) where
   pub changed_here : (s : NameState) (time : ℕ)
-      → interface_of (with_state h i k s time) i ≡ record { setting = setting_of h i; names = set (interface_of h i).names k (record { state = s }) }
+      → interface_of (with_state h i k s time) i ≡ record { setting = setting_of h i; names = set (interface_of h i).names k s }
   changed_here s time = get_or-set_same h.interfaces i _ absent inside
 
   pub changed_name : (s : NameState) (time : ℕ) → state_of (with_state h i k s time) i k ≡ s
   changed_name s time =
-      ap (λ (x : Interface). (get_or x.names k off_name).state) (changed_here s time)
-      ∙ ap (λ (x : Name). x.state) (get_or-set_same (interface_of h i).names k _ off_name place)
+      ap (λ (x : Interface). (get_or x.names k off_name)) (changed_here s time)
+      ∙ (get_or-set_same (interface_of h i).names k _ off_name place)
 
 module _ {h : Host} {i k time : ℕ} {out : List ℕ} where
   unchanged : {d : Done} → Does h i k time out d → (t : Report) → d.result ≡ refused t → Unchanged h out d
@@ -218,8 +210,8 @@ set_same (x ∷ l) (suc i) d = ap {B = List _} (λ r. x ∷ r) (set_same l i d)
 
 pub state_stays : (h : Host) (i k time : ℕ) → with_state h i k (state_of h i k) time ≡ with_clock h time
 state_stays h i k time =
-    let n : set (interface_of h i).names k (record { state = state_of h i k }) ≡ (interface_of h i).names = set_same (interface_of h i).names k off_name in
-    ap (λ (x : List Name). record { interfaces = set h.interfaces i (record { setting = setting_of h i; names = x }); clock = time }) n
+    let n : set (interface_of h i).names k (state_of h i k) ≡ (interface_of h i).names = set_same (interface_of h i).names k off_name in
+    ap (λ (x : List NameState). record { interfaces = set h.interfaces i (record { setting = setting_of h i; names = x }); clock = time }) n
     ∙ ap (λ (x : List Interface). record { interfaces = x; clock = time }) (set_same h.interfaces i absent)
 
 -- as many interfaces as settings; and a host is its interfaces, one by one, and its clock
@@ -258,7 +250,7 @@ module _ (h g : Host) (i : ℕ) (same : SameHere h g i) where
         here =
             set_here h.interfaces g.interfaces i _
             (as_many h.interfaces g.interfaces same.settings) same.here
-            ∙ ap (λ (x : Interface). get_or (set g.interfaces i (record { setting = x.setting; names = set x.names k (record { state = s }) })) i absent) same.here;
+            ∙ ap (λ (x : Interface). get_or (set g.interfaces i (record { setting = x.setting; names = set x.names k s })) i absent) same.here;
       }
 
   same_changed : (k : ℕ) (s u : NameState) → s ≡ u → (time : ℕ) → SameHere (with_state h i k s time) (with_state g i k u time) i

@@ -1,17 +1,12 @@
 -- What receive gives, whole, under the plain conditions of specs/ExactlyWhen.antt: a reply, a defence, a stop, a response that is kept, and
 -- the refusals 1 to 4, 12, 13, 15 and 16.
-use Prim.Native.Nat.{ℕ}
-use mathlib.Core.Path.{◌≡◌, ap, ◌∙◌}
-use mathlib.Core.Logic.{◌↔◌, ⊎_elim}
-use mathlib.Core.List.{List}
-use mathlib.Core.Bool.{Bool, true, false, not}
+use Rattle.std.proofs.Common.{Option, ℕ, ◌≡◌, ap, ◌∙◌, ◌↔◌, ⊎_elim, List, Bool, true, false, not}
 use Rattle.octets.specs.Tests.{◌and◌, ◌or◌}
 use Rattle.octets.proofs.Tests.{only_first, not_not, not_is}
 use Rattle.octets.specs.Addresses.{address_of, below_address}
 use Rattle.refusal.specs.Numbers.{Report, number}
 use Rattle.refusal.specs.Checks.{passed, refused, Gives, next, stop, done}
 use Rattle.name_table.specs.Check.{Held, is_found}
-use Rattle.name_table.specs.declared.Found.{Found}
 use Rattle.message.specs.declared.Question.{Question}
 use Rattle.host.specs.State.{setting_of, state_of, off, verifying, stopped, is, with_clock, with_state}
 use Rattle.host.specs.Outcomes.{refusal, silent, kept, stopped as stopped_name}
@@ -88,7 +83,7 @@ module _ (h : Host) (a : Arrival) where
       refused_query w.names w.q w.query (number 12)
       (stop
       (⊎_elim
-      (λ f. ap (λ (x : Found). not (is_found x) or is off (state h a)) (asks_none h a w.names w.q w.query.arrives f))
+      (λ f. ap (λ (x : Option ℕ). not (is_found x) or is off (state h a)) (asks_none h a w.names w.q w.query.arrives f))
       (λ t.
       let e = is_found_lem h a w.names w.q w.query.arrives t.0 t.1 in
       let s = ap (is off) (state_is h a w.names w.q w.query.arrives t.0 t.1 ∙ t.2) in
@@ -157,7 +152,7 @@ module _ (h : Host) (a : Arrival) where
       (stop
       (⊎_elim
       (λ f. let e = asks_none h a w.names w.q w.response.arrives f in
-      ap (λ (x : Found). not (is_found x) or not (awaits (state h a) (header a).id (question a).qtype (question a).class)) e)
+      ap (λ (x : Option ℕ). not (is_found x) or not (awaits (state h a) (header a).id (question a).qtype (question a).class)) e)
       (λ t.
       let e = is_found_lem h a w.names w.q w.response.arrives t.0 t.1 in
       let s : awaits (state h a) (header a).id (question a).qtype (question a).class ≡ false =

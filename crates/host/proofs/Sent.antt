@@ -1,12 +1,5 @@
 -- What start, tick and receive send is read as what it is.
-use Prim.Native.Nat.{ℕ, ◌+◌, ◌-◌, ◌%◌, ◌<◌, ◌≤◌}
-use mathlib.Core.Path.{◌≡◌, refl, sym, ap, ◌∙◌, subst}
-use mathlib.Core.List.{List, [], ◌++◌, append_assoc, append-nil}
-use mathlib.Core.Bool.{Bool, true, false, cond}
-use native.Mathlib.Omega.{arith}
-use lib.ListN.{length, get_or, take, drop, length-append, length-drop}
-use lib.Seq.{take_at}
-use lib.Dec.{ltb}
+use Rattle.std.proofs.Common.{Some, ℕ, ◌+◌, ◌-◌, ◌%◌, ◌<◌, ◌≤◌, ◌≡◌, refl, sym, ap, ◌∙◌, subst, List, [], ◌++◌, append_assoc, append-nil, Bool, true, false, cond, arith, length, get_or, take, drop, length-append, length-drop, take_at, ltb}
 use Rattle.octets.specs.Octets.{Octets, octet_at, part_of, put}
 use Rattle.octets.specs.Words.{big_octets}
 use Rattle.octets.proofs.Tests.{split}
@@ -19,7 +12,6 @@ use Rattle.name_table.specs.Entries.{Answer}
 use Rattle.name_table.proofs.Held.{held_name}
 use Rattle.message.specs.Bounds.{header_octets, class_in, type_any}
 use Rattle.message.specs.declared.Question.{Question}
-use Rattle.message.specs.declared.QuestionRead.TheVariants.{Good}
 use Rattle.message.specs.declared.ReplyHead.{ReplyHead}
 use Rattle.message.specs.Query.{query_octets, count_octets}
 use Rattle.message.specs.Question.{question_at, question_octets, IsQuestion}
@@ -147,8 +139,8 @@ module _ (h : Host) (a : Arrival) (o : Octets a.datagram) (hs : List Held) (q : 
   asked_short : header_octets + length (question_in a q) ≤ reply_limit
   asked_short = omega (arith, asked_length, is_question.name.len_is, is_question.name.is_name.short)
 
-  same_question : Good (record { name = q.name; labels = q.labels; qtype = q.qtype; class = q.class; end = header_octets + q.name + 4 }) ≡ Good q
-  same_question = ap (λ (e : ℕ). Good (record { name = q.name; labels = q.labels; qtype = q.qtype; class = q.class; end = e })) (sym is_question.end)
+  same_question : Some (record { name = q.name; labels = q.labels; qtype = q.qtype; class = q.class; end = header_octets + q.name + 4 }) ≡ Some q
+  same_question = ap (λ (e : ℕ). Some (record { name = q.name; labels = q.labels; qtype = q.qtype; class = q.class; end = e })) (sym is_question.end)
 
   -- its name stands after the header of every message that has the question there
   name_copied : (b r : List ℕ) → drop header_octets b ≡ question_in a q ++ r → header_octets ≤ length b

@@ -1,13 +1,6 @@
 -- What set-up and start give, whole, under the plain conditions of specs/Served.antt.
-use Prim.Native.Nat.{ℕ, zero, suc, ◌<◌}
-use mathlib.Core.Path.{◌≡◌, refl, sym, ap, ◌∙◌, subst}
-use mathlib.Core.Logic.{◌↔◌, ◌⊎◌}
-use mathlib.Core.List.{List, [], ◌∷◌}
-use mathlib.Core.Bool.{Bool, true, false, not}
-use native.Mathlib.Omega.{arith}
-use lib.ListN.{length, get_or}
-use lib.Dec.{leb, eqb}
-use borrow.Author.Tests.{eqb-true, eqb-false, leb-false, le-leb, lt-leb}
+use Rattle.std.proofs.Common.{ℕ, zero, suc, ◌<◌, ◌≡◌, refl, sym, ap, ◌∙◌, subst, ◌↔◌, ◌⊎◌, List, [], ◌∷◌, Bool, true, false, not, arith, length, get_or, leb, eqb, eqb-true, leb-false, le-leb}
+use Rattle.std.proofs.lemmas.Bool.{eqb-false, lt-leb}
 use Rattle.octets.specs.Tests.{◌or◌}
 use Rattle.octets.specs.Bounds.{interfaces, ipv4, ipv6}
 use Rattle.octets.specs.Addresses.{is_family, is_group, address_of, unused}

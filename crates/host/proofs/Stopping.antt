@@ -1,13 +1,8 @@
 -- Until when a stopped name is not tried again, and when a start is too soon: exactly as specs/Stopping.antt and specs/Served.antt say in plain
 -- words. And both together: after the response that stops a name, a start is refused with 21 exactly before the time that the response gives.
-use Prim.Native.Nat.{ℕ, ◌+◌, ◌<◌}
-use mathlib.Core.Path.{◌≡◌, refl, sym, ap, ◌∙◌, subst}
-use mathlib.Core.Logic.{◌↔◌, ◌≢◌}
-use mathlib.Core.List.{List}
-use native.Mathlib.Omega.{arith}
-use lib.ListN.{length}
-use lib.Dec.{ltb, eqb}
-use borrow.Author.Tests.{ltb-true, ltb-false, lt-ltb, le-ltb, leb-false, eqb-true, eqb-false, eq-eqb, ne_eqb}
+use Rattle.message.specs.declared.ResourceRecord.{ResourceRecord}
+use Rattle.std.proofs.Common.{None, Option, Some, ℕ, ◌+◌, ◌<◌, ◌≡◌, refl, sym, ap, ◌∙◌, subst, ◌↔◌, ◌≢◌, List, arith, length, ltb, eqb, ltb-true, ltb-false, lt-ltb, le-ltb, leb-false, eqb-true, eq-eqb, ne_eqb}
+use Rattle.std.proofs.lemmas.Bool.{eqb-false}
 use Rattle.octets.specs.Octets.{Octets}
 use Rattle.octets.proofs.Tests.{split}
 use Rattle.refusal.specs.Numbers.{number}
@@ -16,8 +11,6 @@ use Rattle.refusal.proofs.Checks.{from_later, from_last}
 use Rattle.name_table.specs.Kinds.{kind_of, is_shared_kind}
 use Rattle.name_table.specs.Check.{Held, names_in, name_in, check_table}
 use Rattle.message.specs.Bounds.{top_bit}
-use Rattle.message.specs.declared.RecordRead.{RecordRead}
-use Rattle.message.specs.declared.RecordRead.TheVariants.{Good, Bad}
 use Rattle.message.specs.Header.{header_of}
 use Rattle.message.specs.Records.{record_at, IsRecord}
 use Rattle.message.proofs.Records.{reads_a_record, reads_no_record}
@@ -47,14 +40,14 @@ module _ (time answers : ℕ) (s : List ℕ) (at : ℕ) (o : Octets s) where
   unfolding stopped_until
   plainly = split (eqb answers 0) (λ z. rw z (no_answer (eqb-true _ _ z))) (λ z. rw z (read (record_at s at) refl (eqb-false _ _ z)))
     where
-      read : (r : RecordRead) → record_at s at ≡ r → answers ≢ 0 → Until (time + rest_by r)
-      read (Good r) e n =
+      read : (r : Option ResourceRecord) → record_at s at ≡ r → answers ≢ 0 → Until (time + rest_by r)
+      read (Some r) e n =
           let w : IsRecord s at r = (reads_a_record s at r o).0 e in
           let z : time + 0 ≡ time = omega arith in
           split (ltb r.ttl top_bit)
           (λ t. rw t (by_ttl r n w (ltb-true r.ttl top_bit t)))
           (λ t. rw (t, z) (top_bit_set r n w (ltb-false r.ttl top_bit t)))
-      read Bad e n = bad_answer ((reads_no_record s at o).0 e)
+      read None e n = bad_answer ((reads_no_record s at o).0 e)
 
   -- and nothing else is said so.
   only : (u : ℕ) → Until u → u ≡ stopped_until time answers s at

@@ -1,10 +1,5 @@
 -- A start and the three ticks that serve its name: three queries with the same octets, then Unique.
-use Prim.Native.Nat.{ℕ, ◌+◌, ◌<◌, ◌≤◌}
-use mathlib.Core.Path.{◌≡◌, refl, sym, ap, ◌∙◌, subst}
-use mathlib.Core.Logic.{◌⊎◌}
-use mathlib.Core.List.{List}
-use native.Mathlib.Omega.{arith}
-use lib.ListN.{length, set, take, length-set, length-append}
+use Rattle.std.proofs.Common.{ℕ, ◌+◌, ◌<◌, ◌≤◌, ◌≡◌, refl, sym, ap, ◌∙◌, subst, ◌⊎◌, List, arith, length, set, take, length-set, length-append}
 use Rattle.octets.specs.Bounds.{ipv4, ipv6}
 use Rattle.octets.specs.Octets.{Octets, put}
 use Rattle.octets.specs.declared.Setting.{Setting}
@@ -51,8 +46,8 @@ module _ (h g : Host) (i k : ℕ) (inside : i < length g.interfaces) (place : k 
       let s : NameState = Verifying n id (timer_from (setting_of g i) t) in
       let l = changed_here g i k inside place s t in
       record {
-        interface = omega (arith, length-set g.interfaces i (record { setting = setting_of g i; names = set (interface_of g i).names k (record { state = s }) }));
-        place = subst (λ (x : Interface). k < length x.names) (sym l) (omega (arith, length-set (interface_of g i).names k (record { state = s })));
+        interface = omega (arith, length-set g.interfaces i (record { setting = setting_of g i; names = set (interface_of g i).names k s }));
+        place = subst (λ (x : Interface). k < length x.names) (sym l) (omega (arith, length-set (interface_of g i).names k s));
         setting = ap (λ (x : Interface). x.setting) l ∙ e;
         clock = refl;
         state = changed_name g i k inside place s t ∙ ap (λ (x : Setting). Verifying n id (timer_from x t)) e;

@@ -1,13 +1,6 @@
 -- What a tick gives, whole, under the plain conditions of specs/Served.antt; and exactly when a name becomes Unique.
-use Prim.Native.Nat.{ℕ, zero, suc, ◌+◌, ◌<◌, ◌≤◌}
-use mathlib.Core.Path.{◌≡◌, refl, sym, ap, ◌∙◌, subst}
-use mathlib.Core.Logic.{◌↔◌}
-use mathlib.Core.List.{List}
-use mathlib.Core.Bool.{true, false}
-use native.Mathlib.Omega.{arith}
-use lib.ListN.{length, get_or}
-use lib.Dec.{ltb, eqb}
-use borrow.Author.Tests.{eqb-true, eqb-false, lt-ltb, le-ltb, ltb-false}
+use Rattle.std.proofs.Common.{ℕ, zero, suc, ◌+◌, ◌<◌, ◌≤◌, ◌≡◌, refl, sym, ap, ◌∙◌, subst, ◌↔◌, List, true, false, arith, length, get_or, ltb, eqb, eqb-true, lt-ltb, le-ltb, ltb-false}
+use Rattle.std.proofs.lemmas.Bool.{eqb-false}
 use Rattle.octets.proofs.Tests.{split, never, not_is}
 use Rattle.refusal.specs.Numbers.{Report}
 use Rattle.refusal.specs.Checks.{pass, Verdict, refused, passed, verdict, Gives, done, Clear}
@@ -22,7 +15,6 @@ use Rattle.host.specs.Tick.{is_due, Due, due, none, due_from, serve, serve_due, 
 use Rattle.host.specs.ExactlyWhen.{CalledWell}
 use Rattle.host.specs.Served.{RefusedFirst, DueBy, ServesWhen, HasAsked, BecomesUniqueWhen, AsksAgainWhen, QuietWhen}
 use Rattle.host.specs.declared.Timer.{Timer}
-use Rattle.host.specs.declared.Name.{Name}
 use Rattle.host.specs.declared.NameState.{NameState}
 use Rattle.host.specs.declared.NameState.TheVariants.{Off, Verifying, Unique, Defending, Stopped, Shared}
 use Rattle.host.specs.declared.Host.{Host}
@@ -32,17 +24,17 @@ use Rattle.host.proofs.Called.{called_is, called_gives, first_gives}
 -- ---- the search for a name that is due
 
 -- the first of n names from the k-th on that is due is the j-th
-record FirstDue (n : ℕ) (names : List Name) (k time j : ℕ) : Type 0 where
+record FirstDue (n : ℕ) (names : List NameState) (k time j : ℕ) : Type 0 where
   from : k ≤ j
   below : j < k + n
-  due : is_due (get_or names j off_name).state time ≡ true
-  none : (m : ℕ) → k ≤ m → m < j → is_due (get_or names m off_name).state time ≡ false
+  due : is_due (get_or names j off_name) time ≡ true
+  none : (m : ℕ) → k ≤ m → m < j → is_due (get_or names m off_name) time ≡ false
 
-first_is : (n : ℕ) (names : List Name) (k time j : ℕ) → due_from n names k time ≡ due j → FirstDue n names k time j
+first_is : (n : ℕ) (names : List NameState) (k time j : ℕ) → due_from n names k time ≡ due j → FirstDue n names k time j
 unfolding due_from
 first_is zero names k time j e = let z : ◌≡◌ {A = ℕ} 0 1 = cc in absurd (omega arith)
 first_is (suc n) names k time j e =
-    split (is_due (get_or names k off_name).state time)
+    split (is_due (get_or names k off_name) time)
     (λ t.
     let p : k ≡ j = cc (rw t at e) in
     record {
@@ -64,13 +56,13 @@ first_is (suc n) names k time j e =
           split (eqb m k) (λ x. rw (eqb-true m k x) t) (λ x. let y = eqb-false m k x in r.none m (omega arith) (omega arith));
     })
 
-first_found : (n : ℕ) (names : List Name) (k time j : ℕ) → FirstDue n names k time j → due_from n names k time ≡ due j
+first_found : (n : ℕ) (names : List NameState) (k time j : ℕ) → FirstDue n names k time j → due_from n names k time ≡ due j
 unfolding due_from
 first_found zero names k time j f = let l = f.from in let u = f.below in absurd (omega arith)
 first_found (suc n) names k time j f =
     let l = f.from in
     let u = f.below in
-    split (is_due (get_or names k off_name).state time)
+    split (is_due (get_or names k off_name) time)
     (λ t. split (eqb k j) (λ x. rw t (ap due (eqb-true k j x))) (λ x. let y = eqb-false k j x in never t (f.none k (omega arith) (omega arith))))
     (λ t.
     split (eqb k j) (λ x. never (rw (eqb-true k j x) f.due) t)
@@ -79,7 +71,7 @@ first_found (suc n) names k time j f =
     (first_found n names (k + 1) time j
     (record { from = omega arith; below = omega arith; due = f.due; none = λ m p q. f.none m (omega arith) q }))))
 
-none_found : (n : ℕ) (names : List Name) (k time : ℕ) → ((m : ℕ) → m < k + n → is_due (get_or names m off_name).state time ≡ false) → due_from n names k time ≡ none
+none_found : (n : ℕ) (names : List NameState) (k time : ℕ) → ((m : ℕ) → m < k + n → is_due (get_or names m off_name) time ≡ false) → due_from n names k time ≡ none
 unfolding due_from
 none_found zero names k time g = refl
 none_found (suc n) names k time g = let e = g k (omega arith) in rw e (none_found n names (k + 1) time (λ m l. g m (omega arith)))

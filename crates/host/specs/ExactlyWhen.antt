@@ -1,16 +1,14 @@
 -- Exactly when a reply goes out, a defence goes out, a name stops, a response is kept, and when 12, 13, 15 and 16 are given: document
 -- 01's conditions, one by one. They speak of octets, entries of the table, addresses, states and times. What each gives is shown in
 -- proofs/Received.antt, and that the first three are exact, both ways, in proofs/ExactlyWhen.antt.
-use Rattle.std.specs.Prelude.{ℕ, ◌+◌, ◌<◌, ◌≤◌, ◌≡◌, ◌≢◌, ◌⊎◌, List, Bool, true, false, length}
+use Rattle.std.specs.Prelude.{ℕ, ◌+◌, ◌<◌, ◌≤◌, ◌≡◌, ◌≢◌, ◌⊎◌, List, Bool, true, false, length, Some, None}
 use Rattle.octets.specs.Bounds.{interfaces, ipv4, ipv6}
 use Rattle.octets.specs.Octets.{part_of}
 use Rattle.octets.specs.Addresses.{is_group, address_of, below_address}
 use Rattle.octets.specs.declared.Address.{Address}
-use Rattle.name_table.specs.declared.Found.TheVariants.{At, Nothing}
 use Rattle.name_table.specs.Check.{Held, good, check_table, find_name}
 use Rattle.message.specs.Bounds.{header_octets, class_in, type_any}
 use Rattle.message.specs.declared.Question.{Question}
-use Rattle.message.specs.declared.QuestionRead.TheVariants.{Good}
 use Rattle.message.specs.Header.{header_of}
 use Rattle.message.specs.Question.{question_at}
 use Rattle.host.specs.Bounds.{any_class, room as room_octets, latest as latest_time, shortest as shortest_datagram, longest as longest_datagram}
@@ -50,7 +48,7 @@ pub record ArrivesWell (h : Host) (a : Arrival) (names : List Held) (q : Questio
   -- QDCOUNT
   pub one_question : (header_of a.datagram).questions ≡ 1
   -- it stands after the header
-  pub question : question_at a.datagram header_octets ≡ Good q
+  pub question : question_at a.datagram header_octets ≡ Some q
 
 -- And a query besides.
 pub record QueryArrives (h : Host) (a : Arrival) (names : List Held) (q : Question) : Type 0 where
@@ -74,10 +72,10 @@ pub record ResponseArrives (h : Host) (a : Arrival) (names : List Held) (q : Que
 
 -- the question's name is the k-th of these names; it is none of them
 abbrev pub AsksFor : Arrival → List Held → Question → ℕ → Type 0
-AsksFor a names q k = find_name names (part_of a.datagram header_octets (header_octets + q.name)) ≡ At k
+AsksFor a names q k = find_name names (part_of a.datagram header_octets (header_octets + q.name)) ≡ Some k
 
 abbrev pub AsksForNone : Arrival → List Held → Question → Type 0
-AsksForNone a names q = find_name names (part_of a.datagram header_octets (header_octets + q.name)) ≡ Nothing
+AsksForNone a names q = find_name names (part_of a.datagram header_octets (header_octets + q.name)) ≡ None
 
 -- the state of the k-th name where the datagram arrived
 abbrev pub state_here : Host → Arrival → ℕ → NameState

@@ -1,5 +1,5 @@
 -- Receive, in stages: opening (1 to 4), datagram (5 to 11), name (12 to 14; 15 and 16 for a response), then decision and effect.
-use Rattle.std.specs.Prelude.{ℕ, ◌+◌, List, Bool, false, cond, not, length, ltb, eqb}
+use Rattle.std.specs.Prelude.{ℕ, ◌+◌, List, Bool, false, cond, not, length, ltb, eqb, Option}
 use Rattle.octets.specs.Tests.{◌and◌, ◌or◌}
 use Rattle.octets.specs.Octets.{part_of}
 use Rattle.octets.specs.Addresses.{is_group, address_of, below_address}
@@ -7,12 +7,10 @@ use Rattle.octets.specs.declared.Address.{Address}
 use Rattle.octets.specs.declared.Endpoint.{Endpoint}
 use Rattle.refusal.specs.Numbers.{number}
 use Rattle.refusal.specs.Checks.{Checks, fail, pass, Verdict, refused, passed, verdict}
-use Rattle.name_table.specs.declared.Found.{Found}
 use Rattle.name_table.specs.Check.{check_table, names_in, name_in, find_name, is_found, number_or}
 use Rattle.message.specs.Bounds.{header_octets, class_in, type_any}
 use Rattle.message.specs.declared.Header.{Header}
 use Rattle.message.specs.declared.Question.{Question}
-use Rattle.message.specs.declared.QuestionRead.{QuestionRead}
 use Rattle.message.specs.declared.ReplyHead.{ReplyHead}
 use Rattle.message.specs.Header.{header_of}
 use Rattle.message.specs.Question.{question_at, question_or, is_bad_question}
@@ -75,7 +73,7 @@ abbrev pub bad_class : ℕ → Bool
 bad_class class = not (eqb class class_in or eqb class any_class)
 
 -- the name asked for, if the table has it, and its state here
-abbrev pub found : Arrival → Found
+abbrev pub found : Arrival → Option ℕ
 found a = find_name (names_in (check_table a.table)) (name_asked a (question a))
 
 abbrev pub name_number : Arrival → ℕ
@@ -110,7 +108,7 @@ unmatched h a =
     not (is_found (found a)) or not (awaits (state h a) (header a).id (question a).qtype (question a).class)
 
 -- the stages. 7 to 11, of a header and of the question after it
-abbrev pub message_checks : Header → QuestionRead → Checks → Checks
+abbrev pub message_checks : Header → Option Question → Checks → Checks
 message_checks x q rest =
     fail (not (eqb x.opcode 0)) (number 7)
     (fail (x.response and not (eqb x.rcode 0)) (number 8)

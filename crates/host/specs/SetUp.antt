@@ -1,10 +1,11 @@
 -- Set-up: 2 table, 4 clock, 20 settings; then every name is Off on every interface.
-use Rattle.std.specs.Prelude.{ℕ, zero, suc, List, [], ◌∷◌, map, Bool, false, not, get_or, replicate, ltb, eqb}
+use Rattle.std.specs.Prelude.{ℕ, zero, suc, List, [], ◌∷◌, map, Bool, false, not, get_or, replicate, ltb, eqb, Result, Ok, Err}
 use Rattle.octets.specs.Tests.{◌and◌, ◌or◌}
 use Rattle.octets.specs.Bounds.{interfaces, used_by6}
 use Rattle.octets.specs.declared.Setting.{Setting}
 use Rattle.octets.specs.Addresses.{is_family, is_group, address_of, unused}
-use Rattle.refusal.specs.Numbers.{number}
+use Rattle.refusal.specs.Numbers.{number, report_of}
+use Rattle.refusal.specs.declared.Refusal.{Refusal}
 use Rattle.refusal.specs.Checks.{Checks, fail, pass, Verdict, refused, passed, verdict}
 use Rattle.name_table.specs.Bounds.{most_names}
 use Rattle.host.specs.Bounds.{latest, short, long}
@@ -59,3 +60,8 @@ set_up_by passed settings time = silent (fresh_host settings time) [] ready
 -- set-up has no earlier time and is lent no buffer
 unfoldable pub set_up : List ℕ → List Setting → ℕ → ℕ → Done
 set_up table settings time id = set_up_by (verdict (set_up_checks table settings time)) settings time
+
+-- what set-up gives is that of a definition: a host that is ready, or a refusal, where every field of the host is zero
+abbrev pub set_up_after : Result Host Refusal → Done
+set_up_after (Ok h) = silent h [] ready
+set_up_after (Err why) = refusal zero_host [] (report_of why)

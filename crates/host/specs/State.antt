@@ -7,13 +7,12 @@ use Rattle.host.specs.Bounds.{short, long}
 use Rattle.host.specs.declared.Timer.{Timer}
 use Rattle.host.specs.declared.NameState.{NameState}
 use Rattle.host.specs.declared.NameState.TheVariants.{Off, Verifying, Unique, Defending, Stopped, Shared}
-use Rattle.host.specs.declared.Name.{Name}
 use Rattle.host.specs.declared.Interface.{Interface}
 use Rattle.host.specs.declared.Host.{Host}
 
 -- a name that is Off, and an interface that is not there: the zero values
-abbrev pub off_name : Name
-off_name = record { state = Off }
+abbrev pub off_name : NameState
+off_name = Off
 
 abbrev pub absent : Interface
 absent = record { setting = unused; names = [] }
@@ -38,7 +37,7 @@ is_own h a = is_ours (settings_of h.interfaces) a
 
 -- the state of the name with a number on an interface
 abbrev pub state_of : Host → ℕ → ℕ → NameState
-state_of h i k = (get_or (interface_of h i).names k off_name).state
+state_of h i k = (get_or (interface_of h i).names k off_name)
 
 -- the phase of a name: its state without its data
 pub data Phase : Type 0 where
@@ -78,7 +77,7 @@ with_state h i k state time =
     record {
       interfaces =
           set h.interfaces i
-          (record { setting = setting_of h i; names = set (interface_of h i).names k (record { state = state }) });
+          (record { setting = setting_of h i; names = set (interface_of h i).names k state });
       clock = time;
     }
 

@@ -7,7 +7,6 @@ use Rattle.host.specs.State.{off_name, interface_of, setting_of, state_of, with_
 use Rattle.host.specs.Outcomes.{Done, refusal, silent, quiet, unique as unique_name}
 use Rattle.host.specs.Early.{early}
 use Rattle.host.specs.Asking.{check_query, asking}
-use Rattle.host.specs.declared.Name.{Name}
 use Rattle.host.specs.declared.NameState.{NameState}
 use Rattle.host.specs.declared.NameState.TheVariants.{Off, Verifying, Unique, Defending, Stopped, Shared}
 use Rattle.host.specs.declared.Host.{Host}
@@ -26,10 +25,10 @@ pub data Due : Type 0 where
   none : Due
 
 -- the first of n names from the k-th on that is due
-unfoldable pub due_from : ℕ → List Name → ℕ → ℕ → Due
+unfoldable pub due_from : ℕ → List NameState → ℕ → ℕ → Due
 due_from zero names k time = none
 due_from (suc n) names k time =
-    cond (is_due (get_or names k off_name).state time) (due k) (due_from n names (k + 1) time)
+    cond (is_due (get_or names k off_name) time) (due k) (due_from n names (k + 1) time)
 
 -- Verifying below 3 sends: the same query again with its first ID, from the table's present name; at 3 sends Unique. Defending: Unique.
 -- (The other states are never due.)

@@ -8,186 +8,203 @@ ghost use Rattle.host.specs.Outcomes.{nowhere as zero_endpoint};
 ghost use Rattle.host.specs.SetUp.{fresh_interface, fresh_host, zero_host};
 
 use octets::{Address, Endpoint, Setting};
-use refusal::Refusal;
 
-// When a name's timer runs out, in milliseconds.
-#[derive(Clone, Copy)]
+/// When a name's timer runs out, in milliseconds.
+#[derive(Clone, Copy, PartialEq, Eq, Debug)]
 pub struct Timer {
     pub due: u64,
 }
 
 impl Timer {
-    // The two repeat intervals, in milliseconds, and how often a query is sent.
+    /// The short one of the two repeat intervals, in milliseconds.
     pub const SHORT: u64 = 100;
 
+    /// The long one, in milliseconds.
     pub const LONG: u64 = 1000;
 
+    /// How often a query is sent.
     pub const SENDS: u8 = 3;
 
-    // A second; and how long a lost name is not tried again if no answer of the response that took it can be read.
+    /// Milliseconds of a second.
     pub const SECOND: u64 = 1000;
 
+    /// How long, in milliseconds, a lost name is not tried again if no answer of the response that took it can be read.
     pub const REST: u64 = 30000;
 
-    // The interval of a setting: any but the short one counts as the long one.
+    /// The interval of a setting: any but the short one counts as the long one.
     pub fn interval(setting: Setting) -> u64
         ensures { result ≡ interval_of setting }
     {
-        if (setting.interval as u64) == Timer::SHORT {
-            Timer::SHORT
-        } else {
-            Timer::LONG
+        match setting.interval as u64 {
+            Timer::SHORT => Timer::SHORT,
+            _ => Timer::LONG,
         }
     }
 }
 
-// The state of a name on an interface. Off is the zero value. A name is checked while Verifying; to own a name is Unique or
-// Defending. A stopped name is not tried again until a time.
-#[derive(Clone, Copy)]
+/// The state of a name on an interface. Off is the zero value. A name is checked while Verifying; to own a name is Unique or
+/// Defending. A stopped name is not tried again until a time.
+#[derive(Clone, Copy, PartialEq, Eq, Debug)]
 pub enum NameState {
     Off,
+    /// Asked for so many times with this ID; when the timer runs out, it is asked for again or is Unique.
     Verifying {
         sends: u8,
         id: u16,
         timer: Timer,
     },
     Unique,
+    /// Unique before, and asked for once more with this ID, type and class, since a conflict was notified.
     Defending {
         id: u16,
         qtype: u16,
         qclass: u16,
         timer: Timer,
     },
+    /// Another host has it; a start before this time, in milliseconds, is refused.
     Stopped {
         until: u64,
     },
+    /// Used here, as other hosts may use it too.
     Shared,
 }
 
-// A name's state, held in a struct: it stands in for an array of enums.
-#[derive(Clone, Copy)]
-pub struct Name {
-    pub state: NameState,
-}
-
-impl Name {
-    pub const COUNT: usize = 8;
-}
-
-#[derive(Clone, Copy)]
+/// An interface: its settings, and the state of each name of the table on it.
+#[derive(Clone, Copy, PartialEq, Eq, Debug)]
 pub struct Interface {
     pub setting: Setting,
-    pub names: [Name; Name::COUNT],
+    pub names: [NameState; Interface::NAMES],
 }
 
-#[derive(Clone, Copy)]
+/// A host: its interfaces, and the last accepted time in milliseconds.
+#[derive(Clone, Copy, PartialEq, Eq, Debug)]
 pub struct Host {
     pub interfaces: [Interface; Setting::COUNT],
     pub clock: u64,
 }
 
-// What a call comes to.
-#[derive(Clone, Copy)]
+/// What an accepted call comes to: the number of the name that it tells of, and of a query or a reply how many octets of the
+/// buffer were written, and where they are to be sent.
+#[derive(Clone, Copy, PartialEq, Eq, Debug)]
 pub enum Outcome {
-    Refused(Refusal),
-    Ready,
+    /// No name is due.
     Quiet,
-    Kept { name: usize },
-    Query { name: usize, len: usize },
-    Reply { len: usize },
-    Unique { name: usize },
-    Shared { name: usize },
-    Stopped { name: usize },
+    /// A response that the name waited for changes nothing but the clock.
+    Kept {
+        name: usize,
+    },
+    /// A query for the name is to be sent: the first, a repeat, or a defence.
+    Query {
+        name: usize,
+        len: usize,
+        to: Endpoint,
+    },
+    /// A reply is to be sent.
+    Reply {
+        len: usize,
+        to: Endpoint,
+    },
+    /// The host owns the name here.
+    Unique {
+        name: usize,
+    },
+    /// The host uses the shared name here.
+    Shared {
+        name: usize,
+    },
+    /// The host may no longer use the name here.
+    Stopped {
+        name: usize,
+    },
 }
 
-// What a call returns: the state, the outcome, and where the octets written are to be sent; all zero where nothing is.
-#[derive(Clone, Copy)]
-pub struct Step {
-    pub host: Host,
-    pub outcome: Outcome,
-    pub to: Endpoint,
+/// A datagram as it comes in: the address and port that it is from, the address that it was sent to, and its octets.
+#[derive(Clone, Copy, PartialEq, Eq, Debug)]
+pub struct Arrival<'a> {
+    pub from: Endpoint,
+    pub to: Address,
+    pub datagram: &'a [u8],
 }
 
-// Where nothing is sent.
+/// When a call is made, in milliseconds, and the ID of a query that it may begin.
+#[derive(Clone, Copy, PartialEq, Eq, Debug)]
+pub struct Moment {
+    pub time: u64,
+    pub id: u16,
+}
+
+/// Where nothing is sent: every field is zero.
+// A value of zeros, and no Option: C gets it (rule C8 of docs/RULES.md), and `nowhere` of the definitions is this value.
 pub fn nowhere() -> Endpoint
     ensures { result ≡ zero_endpoint }
 {
-    let address = Address {
-        family: 0,
-        octets: [0; Address::IPV6_OCTETS],
-    };
     Endpoint {
-        address: address,
+        address: Address {
+            family: 0,
+            octets: [0; Address::IPV6_OCTETS],
+        },
         port: 0,
     }
 }
 
 impl Interface {
-    // With its settings as given, and all names Off.
+    /// Names of a table at the most.
+    pub const NAMES: usize = 8;
+
+    /// With its settings as given, and all names Off.
     pub fn fresh(setting: Setting) -> Self
         ensures { result ≡ fresh_interface setting }
     {
-        let name = Name {
-            state: NameState::Off,
-        };
         Interface {
-            setting: setting,
-            names: [name; Name::COUNT],
+            setting,
+            names: [NameState::Off; Interface::NAMES],
         }
     }
 
-    // The settings of all interfaces.
-    pub fn settings(interfaces: [Interface; Setting::COUNT]) -> [Setting; Setting::COUNT]
-        ensures { result ≡ four_settings interfaces }
+    /// The settings of all interfaces.
+    pub fn settings(interfaces: &[Interface; Setting::COUNT]) -> [Setting; Setting::COUNT]
+        ensures { result ≡ four_settings interfaces.now }
     {
-        let a = interfaces[0];
-        let b = interfaces[1];
-        let c = interfaces[2];
-        let d = interfaces[3];
-        let p = a.setting;
-        let q = b.setting;
-        let r = c.setting;
-        let s = d.setting;
-        [p, q, r, s]
+        interfaces.each_ref().map(|interface| interface.setting)
     }
 }
 
 impl Host {
-    // The latest time, 2^48 - 1 milliseconds; the octets of the output buffer that every call but set-up needs, of a reply at the
-    // most, and of a datagram at the most; the class that asks for any class.
+    /// The latest time, 2^48 - 1 milliseconds.
     pub const LATEST: u64 = 281474976710655;
 
+    /// Octets of the output buffer that every call but set-up needs.
     pub const ROOM: usize = 512;
 
+    /// Octets of a reply at the most.
     pub const REPLY: u16 = 512;
 
+    /// Octets of a datagram at the most.
     pub const DATAGRAM: usize = 9194;
 
+    /// The class that asks for any class.
     pub const ANY_CLASS: u16 = 255;
 
-    // With all names Off.
+    /// With all names Off.
     pub fn fresh(settings: [Setting; Setting::COUNT], time: u64) -> Self
         ensures { result ≡ fresh_host settings time }
     {
-        let a = Interface::fresh(settings[0]);
-        let b = Interface::fresh(settings[1]);
-        let c = Interface::fresh(settings[2]);
-        let d = Interface::fresh(settings[3]);
         Host {
-            interfaces: [a, b, c, d],
+            interfaces: settings.map(Interface::fresh),
             clock: time,
         }
     }
 
-    // What a refused set-up gives: all interfaces unused, all else zero.
+    /// All interfaces unused, all else zero: the state of a host that was not set up.
+    // A value of zeros, and no Option: C gets it where a set-up is refused (rule S5 of docs/RULES.md).
     pub fn zero() -> Self
         ensures { result ≡ zero_host }
     {
-        let s = Setting {
+        let unused = Setting {
             family: 0,
             address: [0; Address::IPV6_OCTETS],
             interval: 0,
         };
-        Host::fresh([s; Setting::COUNT], 0)
+        Host::fresh([unused; Setting::COUNT], 0)
     }
 }

@@ -1,4 +1,5 @@
 pub mod Lists
+pub mod Tables
 pub mod RoundTrip
 pub mod Told
 pub mod Calls

@@ -1,8 +1,17 @@
--- Arrays of four and of eight, element by element.
-use mathlib.Core.Path.{◌≡◌, refl}
+-- Arrays of four, element by element; and what is made of each element.
+use denote.Param.Members.{Mut}
+use Rattle.std.specs.Fn.{Called}
+use Rattle.std.specs.Array.{IsMapOf}
+use Rattle.std.proofs.lemmas.List.{ext_get_or}
+use Rattle.std.specs.Prelude.{Some, position}
+use Rattle.std.specs.List.{position_from}
+use Rattle.std.proofs.lemmas.Iterator.Adapters.{position_from-zero}
+use Prim.Native.Nat.{ℕ, ◌+◌}
+use mathlib.Core.Path.{◌≡◌, refl, sym, ap, ◌∙◌}
+use mathlib.Core.Bool.{Bool, cond}
 use mathlib.Core.List.{List, [], ◌∷◌, map}
 use native.Mathlib.Omega.{arith}
-use lib.ListN.{length, get_or}
+use lib.ListN.{length, get_or, length-map, get_or-map}
 
 module _ {A : Type 0} where
   pub data Four : List A → Type 0 where
@@ -16,26 +25,26 @@ module _ {A : Type 0} where
   fours (a ∷ b ∷ c ∷ d ∷ []) e = four a b c d
   fours (a ∷ b ∷ c ∷ d ∷ f ∷ l) e = absurd (omega arith)
 
-module _ {A B : Type 0} (f : A → B) (z : A) where
-  -- f of each element, of four from the start of a list, and of four after these
-  abbrev first : List A → List B → List B
-  first l rest = f (get_or l 0 z) ∷ f (get_or l 1 z) ∷ f (get_or l 2 z) ∷ f (get_or l 3 z) ∷ rest
+-- f of each of four
+pub map_four : {A B : Type 0} (f : A → B) (z : A) (l : List A) → length l ≡ 4
+    → f (get_or l 0 z) ∷ f (get_or l 1 z) ∷ f (get_or l 2 z) ∷ f (get_or l 3 z) ∷ [] ≡ map f l
+map_four {A} {B} f z l e = go (fours l e)
+  where
+    go : {l : List A} → Four l → f (get_or l 0 z) ∷ f (get_or l 1 z) ∷ f (get_or l 2 z) ∷ f (get_or l 3 z) ∷ [] ≡ map f l
+    go (four a b c d) = refl
 
-  abbrev second : List A → List B
-  second l = f (get_or l 4 z) ∷ f (get_or l 5 z) ∷ f (get_or l 6 z) ∷ f (get_or l 7 z) ∷ []
+-- what an array's `map` gives
+pub mapped : {F A B : Type 0} (g : Mut F (A × Unit {0}) B) (h : A → B) (d : A) (f : F) (xs : List A) (ys : List B) (n : ℕ) → length xs ≡ n
+    → ((p q : F) (x : A) (y : B) → Called g p (x, tt) y q → y ≡ h x) → IsMapOf g f xs ys n → ys ≡ map h xs
+mapped g h d f xs ys n l k m =
+    ext_get_or (h d) ys (map h xs) (m.long ∙ sym l ∙ sym (length-map xs h))
+    (λ i b. let c = m.at i d (h d) (omega (arith, b, m.long)) in k c.0 c.1 _ _ c.2 ∙ sym (get_or-map h xs i d))
 
-  pub map_four : (l : List A) → length l ≡ 4 → first l [] ≡ map f l
-  map_four l e = go (fours l e)
-    where
-      go : {l : List A} → Four l → first l [] ≡ map f l
-      go (four a b c d) = refl
+-- the first place at which a test of what stands there passes, and the first of these that passes
+module _ {A B : Type 0} (p : B → Bool) (h : A → B) where
+  from_map : (i : ℕ) (xs : List A) → position_from (λ x. p (h x)) i xs ≡ position_from p i (map h xs)
+  from_map i [] = refl
+  from_map i (x ∷ xs) = ap (cond (p (h x)) (Some i)) (from_map (i + 1) xs)
 
-  pub map_eight : (l : List A) → length l ≡ 8 → first l (second l) ≡ map f l
-  map_eight [] e = absurd (omega arith)
-  map_eight (a ∷ []) e = absurd (omega arith)
-  map_eight (a ∷ b ∷ []) e = absurd (omega arith)
-  map_eight (a ∷ b ∷ c ∷ []) e = absurd (omega arith)
-  map_eight (a ∷ b ∷ c ∷ d ∷ l) e = go (fours l (omega arith))
-    where
-      go : {l : List A} → Four l → first (a ∷ b ∷ c ∷ d ∷ l) (second (a ∷ b ∷ c ∷ d ∷ l)) ≡ map f (a ∷ b ∷ c ∷ d ∷ l)
-      go (four p q r s) = refl
+  pub position-map : (xs : List A) → position (λ x. p (h x)) xs ≡ position p (map h xs)
+  position-map xs = position_from-zero (λ x. p (h x)) xs ∙ from_map 0 xs ∙ sym (position_from-zero p (map h xs))

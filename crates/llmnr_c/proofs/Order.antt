@@ -1,14 +1,8 @@
 -- Two calls for C on different interfaces at one time give the same in either order: from the frame of a call (order/specs/Frame.antt), and
 -- since the steps are taken into different places of the flat host. It need not be in normal form.
-use Prim.Native.Nat.{ℕ, ◌<◌}
-use mathlib.Core.Path.{◌≡◌, refl, sym, ap, ◌∙◌, subst}
+use Rattle.std.proofs.Common.{ℕ, ◌<◌, ◌≡◌, refl, sym, ap, ◌∙◌, subst, ◌≢◌, ◌↔◌, ⊎_elim, List, Bool, true, false, cond, arith, get_or, set, get_or-set_other}
+use Rattle.std.proofs.lemmas.List.{set_comm}
 use mathlib.Core.Logic.Iff
-use mathlib.Core.Logic.{◌≢◌, ◌↔◌, ⊎_elim}
-use mathlib.Core.List.{List}
-use mathlib.Core.Bool.{Bool, true, false, cond}
-use native.Mathlib.Omega.{arith}
-use lib.ListN.{get_or, set}
-use lib.Seq.{get_or-set_other, set_comm}
 use Rattle.octets.proofs.Tests.{split}
 use Rattle.host.specs.State.{absent, off_name}
 use Rattle.host.specs.Outcomes.{CallResult, Done}
@@ -34,7 +28,7 @@ use Rattle.llmnr_c.specs.declared.outcome.FlatOutcome.{FlatOutcome}
 
 -- what a step tells of the interfaces and the result
 abbrev name_of : ℕ → CallResult → List Interface → FlatName
-name_of j r l = cond (changes r) (flat_state (get_or (get_or l j absent).names (name_told r) off_name).state) (bare state_off)
+name_of j r l = cond (changes r) (flat_state (get_or (get_or l j absent).names (name_told r) off_name)) (bare state_off)
 
 same_step : (j : ℕ) (d g : Done) → SameButClock d g → SameStep (step_on j d) (step_on j g)
 same_step j d g s =

@@ -1,30 +1,24 @@
 -- Flat and back loses nothing: a host, a lookup and an outcome that are made flat stand for themselves; and a flat value in normal form is what
 -- its state is made into.
-use Prim.Native.Nat.{ℕ, zero, suc}
-use mathlib.Core.Path.{◌≡◌, refl, ap, ◌∙◌}
-use mathlib.Core.List.{List, [], ◌∷◌, map}
-use native.Mathlib.Omega.{arith}
-use lib.ListN.{length, length-map}
+use Rattle.std.proofs.Common.{Result, rules, ℕ, zero, suc, ◌≡◌, refl, ap, ◌∙◌, List, [], ◌∷◌, map, arith, length}
+use Rattle.std.proofs.lemmas.List.{length-map}
 use Rattle.octets.specs.declared.Setting.{Setting}
 use Rattle.refusal.specs.Numbers.{report_of}
 use Rattle.refusal.specs.declared.Refusal.{Refusal}
-use Rattle.refusal.specs.declared.Refusal.TheVariants.{Room, Table, Interface, Clock, Length, Address, Opcode, Rcode, Counts, Question, Class, NotOurs, Stopped, Notification, Unmatched, Own, Tentative, Records, Busy, Settings, TooSoon, SeveralLabels}
-use Rattle.host.specs.Outcomes.{result_of}
+use Rattle.host.specs.Outcomes.{told}
+use Rattle.host.specs.SetUp.{set_up_after}
 use Rattle.host.specs.declared.NameState.{NameState}
 use Rattle.host.specs.declared.NameState.TheVariants.{Off, Verifying, Unique, Defending, Stopped as StoppedState, Shared}
-use Rattle.host.specs.declared.Name.{Name}
 use Rattle.host.specs.declared.Interface.{Interface as HostInterface}
 use Rattle.host.specs.declared.Host.{Host}
 use Rattle.host.specs.declared.Outcome.{Outcome}
-use Rattle.host.specs.declared.Outcome.TheVariants.{Refused, Ready, Quiet, Kept, Query, Reply, Unique as OwnsName, Shared as SharesName, Stopped as StopsName}
-use Rattle.lookup.specs.Outcomes.{result_of as lookup_result_of}
+use Rattle.lookup.specs.Outcomes.{told as lookup_told}
 use Rattle.lookup.specs.declared.Phase.{Phase}
 use Rattle.lookup.specs.declared.Phase.TheVariants.{Asking, Collecting, Ended}
 use Rattle.lookup.specs.declared.Lookup.{Lookup}
 use Rattle.lookup.specs.declared.Outcome.{Outcome as LookupOutcome}
-use Rattle.lookup.specs.declared.Outcome.TheVariants.{Refused as LookupRefused, Quiet as LookupQuiet, Query as LookupQuery, Part, Found, Collected, NoSuchName}
 use Rattle.llmnr_c.specs.Outcomes.{flat_refusal, flat_outcome, flat_lookup_outcome, report_from, result_from, lookup_result_from}
-use Rattle.llmnr_c.specs.FlatHost.{state_of, name_of, host_of, flat_state, flat_name, flat_names, flat_host}
+use Rattle.llmnr_c.specs.FlatHost.{state_of, host_of, flat_state, flat_names, flat_host}
 use Rattle.llmnr_c.specs.FlatLookup.{phase_of, lookup_of, phase_number, sends_in, due_in, flat_lookup}
 use Rattle.llmnr_c.specs.Normal.{IsNormalName, AreNormalNames, AreNormalInterfaces, IsNormalHost, IsNormalLookup}
 use Rattle.llmnr_c.specs.declared.flat.FlatName.{FlatName}
@@ -35,18 +29,10 @@ use Rattle.llmnr_c.proofs.Lists.{Four, four, fours}
 
 -- ---- A host that is made flat stands for itself.
 
-state_back : (s : NameState) → state_of (flat_state s) ≡ s
-state_back Off = refl
-state_back (Verifying sends id timer) = refl
-state_back Unique = refl
-state_back (Defending id qtype qclass timer) = refl
-state_back (StoppedState until) = refl
-state_back Shared = refl
+pub name_back : (s : NameState) → state_of (flat_state s) ≡ s
+name_back s = search rules
 
-pub name_back : (n : Name) → name_of (flat_name n) ≡ n
-name_back n = ap (λ (s : NameState). record { state = s }) (state_back n.state)
-
-names_back : (l : List Name) → map name_of (map flat_name l) ≡ l
+names_back : (l : List NameState) → map state_of (map flat_state l) ≡ l
 names_back [] = refl
 names_back (n ∷ l) = rw (name_back n, names_back l)
 
@@ -59,9 +45,7 @@ host_back h e = ap (λ (l : List HostInterface). record { interfaces = l; clock 
 -- ---- So does a lookup.
 
 pub phase_back : (p : Phase) → phase_of (phase_number p) (sends_in p) (due_in p) ≡ p
-phase_back (Asking sends timer) = refl
-phase_back (Collecting timer) = refl
-phase_back Ended = refl
+phase_back p = search rules
 
 pub lookup_back : (l : Lookup) → lookup_of (flat_lookup l) ≡ l
 lookup_back l = rw (phase_back l.phase)
@@ -69,48 +53,17 @@ lookup_back l = rw (phase_back l.phase)
 -- ---- The numbers of an outcome tell what it tells.
 
 report_back : (r : Refusal) → report_from (flat_refusal (report_of r)) ≡ report_of r
-report_back Room = refl
-report_back (Table at) = refl
-report_back Interface = refl
-report_back Clock = refl
-report_back Length = refl
-report_back Address = refl
-report_back Opcode = refl
-report_back Rcode = refl
-report_back Counts = refl
-report_back Question = refl
-report_back Class = refl
-report_back NotOurs = refl
-report_back Stopped = refl
-report_back Notification = refl
-report_back Unmatched = refl
-report_back Own = refl
-report_back Tentative = refl
-report_back Records = refl
-report_back Busy = refl
-report_back Settings = refl
-report_back TooSoon = refl
-report_back SeveralLabels = refl
+report_back r = search rules
 
-pub outcome_back : (o : Outcome) → result_from (flat_outcome (result_of o)) ≡ result_of o
-outcome_back (Refused r) = rw (report_back r)
-outcome_back Ready = refl
-outcome_back Quiet = refl
-outcome_back (Kept k) = refl
-outcome_back (Query k len) = refl
-outcome_back (Reply len) = refl
-outcome_back (OwnsName k) = refl
-outcome_back (SharesName k) = refl
-outcome_back (StopsName k) = refl
+pub outcome_back : (o : Result Outcome Refusal) → result_from (flat_outcome (told o)) ≡ told o
+outcome_back o = search (rules, report_back)
 
-pub lookup_outcome_back : (o : LookupOutcome) → lookup_result_from (flat_lookup_outcome (lookup_result_of o)) ≡ lookup_result_of o
-lookup_outcome_back (LookupRefused r) = rw (report_back r)
-lookup_outcome_back LookupQuiet = refl
-lookup_outcome_back (LookupQuery len) = refl
-lookup_outcome_back (Part at answers) = refl
-lookup_outcome_back (Found at answers) = refl
-lookup_outcome_back Collected = refl
-lookup_outcome_back NoSuchName = refl
+-- and so do those of a set-up
+pub set_up_back : (h : Result Host Refusal) → result_from (flat_outcome (set_up_after h).result) ≡ (set_up_after h).result
+set_up_back h = search (rules, report_back)
+
+pub lookup_outcome_back : (o : Result LookupOutcome Refusal) → lookup_result_from (flat_lookup_outcome (lookup_told o)) ≡ lookup_told o
+lookup_outcome_back o = search (rules, report_back)
 
 -- ---- A flat host in normal form is what its host is made into.
 
@@ -118,7 +71,7 @@ abbrev name : ℕ → ℕ → ℕ → ℕ → ℕ → ℕ → FlatName
 name state sends id qtype qclass due = record { state = state; sends = sends; id = id; qtype = qtype; qclass = qclass; due = due }
 
 name_forth : (state sends id qtype qclass due : ℕ) → IsNormalName (name state sends id qtype qclass due)
-    → flat_name (name_of (name state sends id qtype qclass due)) ≡ name state sends id qtype qclass due
+    → flat_state (state_of (name state sends id qtype qclass due)) ≡ name state sends id qtype qclass due
 name_forth zero sends id qtype qclass due n = rw (n.sends (λ e. omega arith), n.id (λ e. omega arith) (λ e. omega arith), n.qtype (λ e. omega arith), n.qclass (λ e. omega arith), n.due (λ e. omega arith) (λ e. omega arith) (λ e. omega arith))
 name_forth (suc zero) sends id qtype qclass due n = rw (n.qtype (λ e. omega arith), n.qclass (λ e. omega arith))
 name_forth (suc (suc zero)) sends id qtype qclass due n = rw (n.sends (λ e. omega arith), n.id (λ e. omega arith) (λ e. omega arith), n.qtype (λ e. omega arith), n.qclass (λ e. omega arith), n.due (λ e. omega arith) (λ e. omega arith) (λ e. omega arith))
@@ -127,7 +80,7 @@ name_forth (suc (suc (suc (suc zero)))) sends id qtype qclass due n = rw (n.send
 name_forth (suc (suc (suc (suc (suc zero))))) sends id qtype qclass due n = rw (n.sends (λ e. omega arith), n.id (λ e. omega arith) (λ e. omega arith), n.qtype (λ e. omega arith), n.qclass (λ e. omega arith), n.due (λ e. omega arith) (λ e. omega arith) (λ e. omega arith))
 name_forth (suc (suc (suc (suc (suc (suc state)))))) sends id qtype qclass due n = absurd (omega (arith, n.state))
 
-names_forth : (l : List FlatName) → AreNormalNames l → map flat_name (map name_of l) ≡ l
+names_forth : (l : List FlatName) → AreNormalNames l → map flat_state (map state_of l) ≡ l
 names_forth [] n = refl
 names_forth (f ∷ l) n = rw (name_forth f.state f.sends f.id f.qtype f.qclass f.due n.0, names_forth l n.1)
 
@@ -166,9 +119,9 @@ name_normal (Defending id qtype qclass timer) =
 name_normal (StoppedState until) = record { state = omega arith; sends = λ e. refl; id = λ e g. refl; qtype = λ e. refl; qclass = λ e. refl; due = λ e g k. absurd (k refl) }
 name_normal Shared = record { state = omega arith; sends = λ e. refl; id = λ e g. refl; qtype = λ e. refl; qclass = λ e. refl; due = λ e g k. refl }
 
-names_normal : (l : List Name) → AreNormalNames (map flat_name l)
+names_normal : (l : List NameState) → AreNormalNames (map flat_state l)
 names_normal [] = tt
-names_normal (n ∷ l) = (name_normal n.state, names_normal l)
+names_normal (n ∷ l) = (name_normal n, names_normal l)
 
 interfaces_normal : (l : List HostInterface) → AreNormalInterfaces (map flat_names l)
 interfaces_normal [] = tt

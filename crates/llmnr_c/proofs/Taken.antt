@@ -1,14 +1,7 @@
 -- A step that is taken into the host that it was made of gives the host that the library's definition gives; and the outcome, the destination and
 -- the octets are those on that host. So it does not matter that a call is given the names of its own interface alone.
-use Prim.Native.Nat.{ℕ, zero, suc, ◌<◌}
-use mathlib.Core.Path.{◌≡◌, refl, sym, ap, ◌∙◌}
-use mathlib.Core.List.{List, [], ◌∷◌, map}
-use mathlib.Core.Bool.{false}
-use native.Mathlib.Omega.{arith}
-use lib.ListN.{length, get_or, set}
-use lib.Seq.{get_or-set_same, set_out}
-use lib.Dec.{leb}
-use borrow.Author.Tests.{leb-true, leb-false}
+use Rattle.std.proofs.Common.{ℕ, zero, suc, ◌<◌, ◌≡◌, refl, sym, ap, ◌∙◌, List, [], ◌∷◌, map, false, arith, length, get_or, set, get_or-set_same, leb, leb-true, leb-false}
+use Rattle.std.proofs.Math.Seq.{set_out}
 use Rattle.octets.specs.Bounds.{interfaces}
 use Rattle.octets.proofs.Tests.{split}
 use Rattle.host.specs.State.{absent, off_name, interface_of as interface_at, state_of as state_at, with_state}
@@ -28,7 +21,7 @@ use Rattle.lookup.specs.Tick.{tick as lookup_tick}
 use Rattle.lookup.proofs.Laws.{receive_asks_the_same, tick_asks_the_same}
 use Rattle.responder.specs.Served.{changes, name_told}
 use Rattle.llmnr_c.specs.Outcomes.{flat_outcome}
-use Rattle.llmnr_c.specs.FlatHost.{name_of, host_of, seen, flat_state, no_names, step_on, take_step}
+use Rattle.llmnr_c.specs.FlatHost.{state_of, host_of, seen, flat_state, no_names, step_on, take_step}
 use Rattle.llmnr_c.specs.FlatLookup.{lookup_of, step_of as lookup_step, take_step as take_lookup}
 use Rattle.llmnr_c.specs.declared.flat.FlatName.{FlatName}
 use Rattle.llmnr_c.specs.declared.flat.FlatNames.{FlatNames}
@@ -56,11 +49,11 @@ set_read l i x d =
 
 -- the names of an interface with a state of the k-th, as it then stands there
 named : (l : List FlatName) (k : ℕ) (s : NameState)
-    → map name_of (set l k (flat_state (get_or (set (map name_of l) k (record { state = s })) k off_name).state)) ≡ set (map name_of l) k (record { state = s })
+    → map state_of (set l k (flat_state (get_or (set (map state_of l) k s) k off_name))) ≡ set (map state_of l) k s
 named l k s =
-    map_set name_of l k _
-    ∙ ap (set (map name_of l) k) (name_back (get_or (set (map name_of l) k (record { state = s })) k off_name))
-    ∙ set_read (map name_of l) k (record { state = s }) off_name
+    map_set state_of l k _
+    ∙ ap (set (map state_of l) k) (name_back (get_or (set (map state_of l) k s) k off_name))
+    ∙ set_read (map state_of l) k s off_name
 
 -- ---- the host
 
@@ -100,7 +93,7 @@ module _ (f : FlatHost) (i : ℕ) (n : FlatNames) (long : length f.interfaces �
       let k = name_told d.result in
       let r : e.result ≡ d.result = sym same.result in
       let there : state_at e.host i k ≡ state_at (with_state (host_of f) i k s 0) i k
-      = sym (ap (λ (x : Interface). (get_or x.names k off_name).state) same.after.here) ∙ ap (λ (l : List Interface). (get_or (get_or l i absent).names k off_name).state) changed in
+      = sym (ap (λ (x : Interface). (get_or x.names k off_name)) same.after.here) ∙ ap (λ (l : List Interface). (get_or (get_or l i absent).names k off_name)) changed in
       rw (r, q, ← told_number d.result, there, ← same.after.clock)
       (ap (λ (l : List Interface). record { interfaces = l; clock = d.host.clock }) (put i k s (fours f.interfaces long) ∙ sym changed))
 

@@ -1,10 +1,5 @@
 -- A call of a host changes at most the name that its outcome tells, and none unless the outcome is one that does.
-use Prim.Native.Nat.{ℕ}
-use mathlib.Core.Path.{◌≡◌, refl}
-use mathlib.Core.List.{List}
-use mathlib.Core.Bool.{Bool, true, false}
-use lib.ListN.{length}
-use lib.Dec.{ltb}
+use Rattle.std.proofs.Common.{ℕ, ◌≡◌, refl, List, Bool, true, false, length, ltb}
 use Rattle.refusal.specs.Checks.{pass, Verdict, refused as refused_by, passed, verdict}
 use Rattle.name_table.specs.Kinds.{kind_of, is_shared_kind}
 use Rattle.name_table.specs.Check.{check_table, names_in, name_in}

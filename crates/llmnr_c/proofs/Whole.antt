@@ -1,9 +1,6 @@
 -- A host in normal form stays so when a step is taken into it, and then it is the whole host of the library's definition, made flat. A lookup is so
 -- whatever its form.
-use Prim.Native.Nat.{ℕ, zero, suc}
-use mathlib.Core.Path.{◌≡◌, sym, ap, ◌∙◌}
-use mathlib.Core.List.{List, [], ◌∷◌}
-use lib.ListN.{get_or, set, length-set}
+use Rattle.std.proofs.Common.{ℕ, zero, suc, ◌≡◌, sym, ap, ◌∙◌, List, [], ◌∷◌, get_or, set, length-set}
 use Rattle.octets.proofs.Tests.{split}
 use Rattle.host.specs.State.{state_of as state_at}
 use Rattle.host.specs.Outcomes.{Done}

@@ -1,17 +1,21 @@
 -- A host as flat structs, and back; what a call of a host gives in C; and how that is taken into the host.
-use Rattle.std.specs.Prelude.{ℕ, List, [], ◌∷◌, map, cond, get_or, set, eqb}
+use Rattle.std.specs.Prelude.{ℕ, List, [], ◌∷◌, map, cond, get_or, set, eqb, false, Option, Some, None, is_some, Result, Ok, Err}
+use Rattle.refusal.specs.Numbers.{report_of}
+use Rattle.refusal.specs.declared.Refusal.{Refusal}
 use Rattle.octets.specs.Addresses.{unused}
 use Rattle.host.specs.declared.NameState.{NameState}
 use Rattle.host.specs.declared.NameState.TheVariants.{Off, Verifying, Unique, Defending, Stopped, Shared}
-use Rattle.host.specs.declared.Name.{Name}
 use Rattle.host.specs.declared.Interface.{Interface}
 use Rattle.host.specs.declared.Host.{Host}
 use Rattle.host.specs.State.{settings_of, state_of as state_at, due_at}
-use Rattle.host.specs.Outcomes.{Done, result_of}
+use Rattle.host.specs.Outcomes.{Done, nowhere, result_of, to_of}
+use Rattle.checks.specs.Messages.{slot_of}
+use Rattle.responder.specs.declared.served.Site.{Site}
+use Rattle.responder.specs.declared.served.NamedState.{NamedState}
 use Rattle.responder.specs.declared.served.Served.{Served}
 use Rattle.responder.specs.Served.{changes, name_told}
 use Rattle.llmnr_c.specs.Numbers.{state_off, state_verifying, state_unique, state_defending, state_stopped, state_shared}
-use Rattle.llmnr_c.specs.Outcomes.{flat_outcome}
+use Rattle.llmnr_c.specs.Outcomes.{flat_refusal, flat_outcome}
 use Rattle.llmnr_c.specs.declared.flat.FlatName.{FlatName}
 use Rattle.llmnr_c.specs.declared.flat.FlatNames.{FlatNames}
 use Rattle.llmnr_c.specs.declared.flat.FlatSettings.{FlatSettings}
@@ -31,9 +35,6 @@ state_of f =
     (cond (eqb f.state state_shared) Shared
     Off))))
 
-abbrev pub name_of : FlatName → Name
-name_of f = record { state = state_of f }
-
 -- the names of an interface that is not there: the zero value
 abbrev pub no_names : FlatNames
 no_names = record { names = [] }
@@ -41,7 +42,7 @@ no_names = record { names = [] }
 -- an interface, by its number
 abbrev pub interface_of : FlatHost → ℕ → Interface
 interface_of f i =
-    record { setting = get_or f.settings.interfaces i unused; names = map name_of (get_or f.interfaces i no_names).names }
+    record { setting = get_or f.settings.interfaces i unused; names = map state_of (get_or f.interfaces i no_names).names }
 
 abbrev pub host_of : FlatHost → Host
 host_of f =
@@ -51,6 +52,10 @@ host_of f =
 -- gives is what it gives on every host with these settings, this clock and these names here (proofs/Taken.antt).
 abbrev pub seen : FlatSettings → ℕ → FlatNames → Host
 seen s clock n = host_of (record { settings = s; interfaces = n ∷ n ∷ n ∷ n ∷ []; clock = clock })
+
+-- what a call on an interface looks at of it, beside names
+abbrev pub site_in : FlatSettings → ℕ → ℕ → Site
+site_in s clock i = record { interface = i; setting = get_or s.interfaces (slot_of i) unused; clock = clock }
 
 -- ---- and back
 
@@ -68,11 +73,8 @@ flat_state (Defending id qtype qclass timer) =
 flat_state (Stopped until) = record { state = state_stopped; sends = 0; id = 0; qtype = 0; qclass = 0; due = until }
 flat_state Shared = bare state_shared
 
-abbrev pub flat_name : Name → FlatName
-flat_name n = flat_state n.state
-
 abbrev pub flat_names : Interface → FlatNames
-flat_names i = record { names = map flat_name i.names }
+flat_names i = record { names = map flat_state i.names }
 
 abbrev pub flat_host : Host → FlatHost
 flat_host h =
@@ -114,16 +116,23 @@ step_on i d =
       octets = d.octets;
     }
 
--- what the code's call says
-abbrev pub flat_served : Served → FlatStep
-flat_served r =
+-- the new state that a name has; all zero if none has one
+abbrev pub new_state : Option NamedState → FlatName
+new_state (Some n) = flat_state n.state
+new_state None = bare state_off
+
+-- what the code's call at a time says, of a host whose clock stands at another
+abbrev pub flat_served : ℕ → ℕ → Result Served Refusal → FlatStep
+flat_served clock time (Ok s) =
     record {
-      clock = r.clock;
-      name = cond (changes (result_of r.outcome)) (flat_name r.name) (bare state_off);
-      outcome = flat_outcome (result_of r.outcome);
-      to = r.to;
-      changed = changes (result_of r.outcome);
+      clock = time;
+      name = new_state s.change;
+      outcome = flat_outcome (result_of s.outcome);
+      to = to_of s.outcome;
+      changed = is_some s.change;
     }
+flat_served clock time (Err why) =
+    record { clock = clock; name = bare state_off; outcome = flat_refusal (report_of why); to = nowhere; changed = false }
 
 -- ---- taking a step into the host that it was made of: `llmnr_take` of the header
 

@@ -1,13 +1,18 @@
 -- A lookup as a flat struct, and back; and what a call of a lookup gives in C.
-use Rattle.std.specs.Prelude.{ℕ, List, cond, eqb}
+use Rattle.std.specs.Prelude.{ℕ, List, cond, eqb, Result, Ok, Err}
+use Rattle.refusal.specs.Numbers.{report_of}
+use Rattle.refusal.specs.declared.Refusal.{Refusal}
+use Rattle.host.specs.Outcomes.{nowhere}
 use Rattle.host.specs.State.{due_at}
 use Rattle.lookup.specs.declared.Phase.{Phase}
 use Rattle.lookup.specs.declared.Phase.TheVariants.{Asking, Collecting, Ended}
 use Rattle.lookup.specs.declared.Lookup.{Lookup}
 use Rattle.octets.specs.declared.Endpoint.{Endpoint}
-use Rattle.lookup.specs.Outcomes.{Done, CallResult}
+use Rattle.lookup.specs.State.{ended_lookup}
+use Rattle.lookup.specs.Outcomes.{Done, CallResult, query}
+use Rattle.lookup.specs.declared.FirstQuery.{FirstQuery}
 use Rattle.llmnr_c.specs.Numbers.{phase_ended, phase_asking, phase_collecting}
-use Rattle.llmnr_c.specs.Outcomes.{flat_lookup_outcome}
+use Rattle.llmnr_c.specs.Outcomes.{flat_refusal, flat_lookup_outcome}
 use Rattle.llmnr_c.specs.declared.flat_lookup.FlatLookup.{FlatLookup}
 use Rattle.llmnr_c.specs.declared.flat_lookup.FlatLookupStart.{FlatLookupStart}
 use Rattle.llmnr_c.specs.declared.flat_lookup.FlatLookupStep.{FlatLookupStep}
@@ -79,6 +84,12 @@ start_of d =
       start = record { lookup = flat_lookup d.lookup; outcome = flat_lookup_outcome d.result; to = d.to };
       octets = d.octets;
     }
+
+-- what the code's start gives: where it is refused, a lookup that has ended
+abbrev pub flat_start : Result FirstQuery Refusal → FlatLookupStart
+flat_start (Ok s) = record { lookup = flat_lookup s.lookup; outcome = flat_lookup_outcome (query s.len); to = s.to }
+flat_start (Err why) =
+    record { lookup = flat_lookup ended_lookup; outcome = flat_refusal (report_of why); to = nowhere }
 
 -- a later call: the clock and the phase of the lookup, since what it asks, and where, never changes
 pub record StepDone : Type 0 where

@@ -1,22 +1,26 @@
 // The state of a host as flat structs, and back. Any flat value stands for some state.
-ghost use Rattle.std.specs.Prelude.{◌≡◌, map, cond, length, get_or, ltb};
+ghost use Rattle.std.specs.Prelude.{◌≡◌, map, get_or};
 ghost use Rattle.name_table.specs.Bounds.{most_names};
-ghost use Rattle.host.specs.State.{off_name, settings_of};
-ghost use Rattle.host.specs.Outcomes.{nowhere};
-ghost use Rattle.host.specs.Tick.{is_due, due, none, due_from};
-ghost use Rattle.llmnr_c.specs.Numbers.{state_off};
-ghost use Rattle.llmnr_c.specs.FlatHost.{state_of, name_of, bare as bare_name, flat_name, flat_names, flat_host, flat_served};
+ghost use Rattle.host.specs.State.{off_name};
+ghost use Rattle.host.specs.Outcomes.{to_of};
+ghost use Rattle.host.specs.SetUp.{set_up_after};
+ghost use Rattle.host.specs.Tick.{is_due as is_state_due};
+ghost use Rattle.responder.specs.Served.{due_found};
+ghost use Rattle.llmnr_c.specs.FlatHost.{state_of, flat_state, flat_names, flat_host};
+ghost use Rattle.llmnr_c.specs.FlatHost.{host_set_up, flat_served};
 
-use crate::outcome;
 use crate::outcome::FlatOutcome;
-use host::{Host, Interface, Name, NameState, Outcome, Timer};
+use host::{Host, Interface, NameState, Outcome, Timer};
 use octets::{Endpoint, Setting};
 use refusal::Refusal;
-use responder::served::Served;
+use responder::served::{NamedState, Served};
+use responder::turn::{self, Waits};
 
-// A name: the number of its state, and of a state with data these; all else is zero. A stopped name is due when it may be tried again.
+/// A name: the number of its state, and of a state with data these; all else is zero. A stopped
+/// name is due when it may be tried again. Any number that no state has counts as Off.
+// A number for the state, and fields that are zero: the C interface.
 #[repr(C)]
-#[derive(Clone, Copy)]
+#[derive(Clone, Copy, Default)]
 pub struct FlatName {
     pub state: u8,
     pub sends: u8,
@@ -26,6 +30,7 @@ pub struct FlatName {
     pub due: u64,
 }
 
+// The numbers of the states in include/llmnr.h: the C interface.
 impl FlatName {
     pub const OFF: u8 = 0;
 
@@ -40,11 +45,12 @@ impl FlatName {
     pub const SHARED: u8 = 5;
 }
 
-// The names of an interface, in the table's order.
+/// The names of an interface, in the table's order.
+// This and the next three repeat the host's types as flat structs: the C interface.
 #[repr(C)]
 #[derive(Clone, Copy)]
 pub struct FlatNames {
-    pub names: [FlatName; Name::COUNT],
+    pub names: [FlatName; Interface::NAMES],
 }
 
 #[repr(C)]
@@ -68,8 +74,9 @@ pub struct FlatSetUp {
     pub outcome: FlatOutcome,
 }
 
-// What a call comes to on an interface: the clock; the name that the outcome tells, if it has a new state, else all zero; the outcome; where to
-// send; and whether a name has a new state.
+/// What a call comes to on an interface: the clock; the name that the outcome tells, if it has a
+/// new state, else all zero; the outcome; where to send; and whether a name has a new state.
+// A flag beside a name, and no Option: the C interface.
 #[repr(C)]
 #[derive(Clone, Copy)]
 pub struct FlatStep {
@@ -80,221 +87,193 @@ pub struct FlatStep {
     pub changed: bool,
 }
 
-// The state that a flat name stands for. A number that no state has counts as Off.
-fn name_of(flat: FlatName) -> Name
-    ensures { result ≡ name_of flat }
-{
-    let timer = Timer { due: flat.due };
-    let number = flat.state;
-    let state = match number {
-        FlatName::VERIFYING => NameState::Verifying {
-            sends: flat.sends,
-            id: flat.id,
-            timer: timer,
-        },
-        FlatName::UNIQUE => NameState::Unique,
-        FlatName::DEFENDING => NameState::Defending {
-            id: flat.id,
-            qtype: flat.qtype,
-            qclass: flat.qclass,
-            timer: timer,
-        },
-        FlatName::STOPPED => NameState::Stopped { until: flat.due },
-        FlatName::SHARED => NameState::Shared,
-        _ => NameState::Off,
-    };
-    Name { state }
-}
+impl From<FlatName> for NameState {
+    ghost from_gives = { λ flat state. state ≡ state_of flat };
 
-// The state that the name with a number stands for; Off where there is none. There are eight names.
-pub(crate) fn name_at(names: [FlatName; Name::COUNT], k: usize) -> Name
-    ensures value { result ≡ get_or (map name_of names) k off_name }
-    ensures names_len { length names ≡ most_names }
-{
-    if k < Name::COUNT {
-        return name_of(names[k]);
-    }
-    Name {
-        state: NameState::Off,
-    }
-}
-
-fn is_due(flat: FlatName, time: u64) -> bool
-    ensures { result ≡ is_due (state_of flat) time }
-{
-    let number = flat.state;
-    match number {
-        FlatName::VERIFYING => flat.due <= time,
-        FlatName::DEFENDING => flat.due <= time,
-        _ => false,
-    }
-}
-
-// The lowest-numbered of the names that is due; their count if none is.
-pub(crate) fn find_due(names: [FlatName; Name::COUNT], time: u64) -> usize
-    ensures { due_from most_names (map name_of names) 0 time ≡ cond (ltb result most_names) (due result) none }
-{
-    let mut i = 0;
-    while i < Name::COUNT {
-        let name = names[i];
-        if is_due(name, time) {
-            return i;
-        }
-        i = i + 1;
-    }
-    Name::COUNT
-}
-
-// A state without data.
-fn bare(state: u8) -> FlatName
-    ensures { result ≡ bare_name state }
-{
-    FlatName {
-        state: state,
-        sends: 0,
-        id: 0,
-        qtype: 0,
-        qclass: 0,
-        due: 0,
-    }
-}
-
-fn flat_name(name: Name) -> FlatName
-    ensures { result ≡ flat_name name }
-{
-    let state = name.state;
-    match state {
-        NameState::Off => bare(FlatName::OFF),
-        NameState::Verifying { sends, id, timer } => FlatName {
-            state: FlatName::VERIFYING,
-            sends: sends,
-            id: id,
-            qtype: 0,
-            qclass: 0,
-            due: timer.due,
-        },
-        NameState::Unique => bare(FlatName::UNIQUE),
-        NameState::Defending {
+    fn from(flat: FlatName) -> NameState {
+        let FlatName {
+            state,
+            sends,
             id,
             qtype,
             qclass,
-            timer,
-        } => FlatName {
-            state: FlatName::DEFENDING,
-            sends: 0,
-            id: id,
-            qtype: qtype,
-            qclass: qclass,
-            due: timer.due,
-        },
-        NameState::Stopped { until } => FlatName {
-            state: FlatName::STOPPED,
-            sends: 0,
-            id: 0,
-            qtype: 0,
-            qclass: 0,
-            due: until,
-        },
-        NameState::Shared => bare(FlatName::SHARED),
+            due,
+        } = flat;
+        let timer = Timer { due };
+        match state {
+            FlatName::VERIFYING => NameState::Verifying { sends, id, timer },
+            FlatName::UNIQUE => NameState::Unique,
+            FlatName::DEFENDING => NameState::Defending {
+                id,
+                qtype,
+                qclass,
+                timer,
+            },
+            FlatName::STOPPED => NameState::Stopped { until: due },
+            FlatName::SHARED => NameState::Shared,
+            _ => NameState::Off,
+        }
     }
 }
 
-fn flat_names(interface: Interface) -> FlatNames
-    ensures { result ≡ flat_names interface }
-{
-    let held = interface.names;
-    let names = each_flat(held);
-    FlatNames { names }
-}
+impl From<NameState> for FlatName {
+    ghost from_gives = { λ state flat. flat ≡ flat_state state };
 
-fn each_flat(names: [Name; Name::COUNT]) -> [FlatName; Name::COUNT]
-    ensures { result ≡ map flat_name names }
-{
-    let a = flat_name(names[0]);
-    let b = flat_name(names[1]);
-    let c = flat_name(names[2]);
-    let d = flat_name(names[3]);
-    let e = flat_name(names[4]);
-    let f = flat_name(names[5]);
-    let g = flat_name(names[6]);
-    let h = flat_name(names[7]);
-    [a, b, c, d, e, f, g, h]
-}
-
-fn flat_interfaces(interfaces: [Interface; Setting::COUNT]) -> [FlatNames; Setting::COUNT]
-    ensures { result ≡ map flat_names interfaces }
-{
-    let a = flat_names(interfaces[0]);
-    let b = flat_names(interfaces[1]);
-    let c = flat_names(interfaces[2]);
-    let d = flat_names(interfaces[3]);
-    [a, b, c, d]
-}
-
-fn flat_settings(interfaces: [Interface; Setting::COUNT]) -> FlatSettings
-    ensures { result ≡ record { interfaces = settings_of interfaces } }
-{
-    let settings = Interface::settings(interfaces);
-    FlatSettings {
-        interfaces: settings,
+    fn from(state: NameState) -> FlatName {
+        let bare = FlatName::default();
+        match state {
+            NameState::Off => FlatName {
+                state: FlatName::OFF,
+                ..bare
+            },
+            NameState::Verifying { sends, id, timer } => FlatName {
+                state: FlatName::VERIFYING,
+                sends,
+                id,
+                due: timer.due,
+                ..bare
+            },
+            NameState::Unique => FlatName {
+                state: FlatName::UNIQUE,
+                ..bare
+            },
+            NameState::Defending {
+                id,
+                qtype,
+                qclass,
+                timer,
+            } => FlatName {
+                state: FlatName::DEFENDING,
+                id,
+                qtype,
+                qclass,
+                due: timer.due,
+                ..bare
+            },
+            NameState::Stopped { until } => FlatName {
+                state: FlatName::STOPPED,
+                due: until,
+                ..bare
+            },
+            NameState::Shared => FlatName {
+                state: FlatName::SHARED,
+                ..bare
+            },
+        }
     }
 }
 
-pub(crate) fn flat_host(host: Host) -> FlatHost
-    ensures { result ≡ flat_host host }
-{
-    let held = host.interfaces;
-    let settings = flat_settings(held);
-    let interfaces = flat_interfaces(held);
-    let clock = host.clock;
-    FlatHost {
-        settings,
-        interfaces,
-        clock,
+impl From<Interface> for FlatNames {
+    ghost from_gives = { λ interface flat. flat ≡ flat_names interface };
+
+    fn from(interface: Interface) -> FlatNames {
+        let names = interface.names.map(FlatName::from);
+        FlatNames { names }
     }
 }
 
-// The new state of a name, if it has one.
-fn new_name(changed: bool, name: Name) -> FlatName
-    ensures { result ≡ cond changed (flat_name name) (bare_name state_off) }
-{
-    if changed {
-        return flat_name(name);
-    }
-    bare(FlatName::OFF)
-}
+impl From<Host> for FlatHost {
+    ghost from_gives = { λ host flat. flat ≡ flat_host host };
 
-// What the library's call comes to, as a step.
-pub(crate) fn step(served: Served) -> FlatStep
-    ensures { result ≡ flat_served served }
-{
-    let came = served.outcome;
-    let changed = outcome::changes_name(came);
-    let next = served.name;
-    let name = new_name(changed, next);
-    let outcome = outcome::of_host(came);
-    let to = served.to;
-    FlatStep {
-        clock: served.clock,
-        name: name,
-        outcome: outcome,
-        to: to,
-        changed: changed,
+    fn from(host: Host) -> FlatHost {
+        // One by one: a call takes up to 2 KiB of stack, says include/llmnr.h, and `map` takes 3.
+        let [a, b, c, d] = host.interfaces;
+        let settings = [a.setting, b.setting, c.setting, d.setting];
+        let interfaces = [a.into(), b.into(), c.into(), d.into()];
+        FlatHost {
+            settings: FlatSettings {
+                interfaces: settings,
+            },
+            interfaces,
+            clock: host.clock,
+        }
     }
 }
 
-// A refusal, as a step.
-pub(crate) fn refused(clock: u64, refusal: Refusal) -> FlatStep
-    ensures { result ≡ flat_served (record { name = off_name; clock = clock; outcome = Outcome.Refused refusal; to = nowhere }) }
+impl From<Result<Host, Refusal>> for FlatSetUp {
+    ghost from_gives = { λ came flat. flat ≡ host_set_up (set_up_after came) };
+
+    fn from(came: Result<Host, Refusal>) -> FlatSetUp {
+        match came {
+            Ok(host) => FlatSetUp {
+                host: FlatHost::from(host),
+                outcome: FlatOutcome {
+                    what: FlatOutcome::READY,
+                    ..FlatOutcome::default()
+                },
+            },
+            Err(refusal) => FlatSetUp {
+                host: FlatHost::from(Host::zero()),
+                outcome: FlatOutcome::from(refusal),
+            },
+        }
+    }
+}
+
+// The state of the name with a number; Off where there is none.
+pub(crate) fn state_at(names: &[FlatName; Interface::NAMES], k: usize) -> NameState
+    ensures { result ≡ get_or (map state_of names.now) k off_name }
 {
-    let name = bare(FlatName::OFF);
-    let outcome = outcome::refused(refusal);
-    let to = host::nowhere();
-    FlatStep {
-        clock: clock,
-        name: name,
-        outcome: outcome,
-        to: to,
-        changed: false,
+    match names.get(k) {
+        Some(flat) => NameState::from(*flat),
+        None => NameState::Off,
+    }
+}
+
+impl Waits for FlatName {
+    ghost is_due = { λ flat time. is_state_due (state_of flat) time };
+
+    fn is_due(&self, time: u64) -> bool {
+        matches!(self.state, FlatName::VERIFYING | FlatName::DEFENDING) && self.due <= time
+    }
+}
+
+// The first of the names that is due, and its state.
+// Beside that of the responder, whose names need no conversion: one for both would be no plainer.
+pub(crate) fn find_due(names: &[FlatName; Interface::NAMES], time: u64) -> Option<NamedState>
+    ensures { result ≡ due_found (map state_of names.now) time }
+{
+    let name = turn::first_due(names, time)?;
+    Some(NamedState {
+        name,
+        state: NameState::from(names[name]),
+    })
+}
+
+// Where the octets that were written go; nowhere where none were.
+// That of flat_lookup takes another enum: a trait for the two would be no plainer.
+fn destination(outcome: Outcome) -> Endpoint
+    ensures { result ≡ to_of outcome }
+{
+    match outcome {
+        Outcome::Query { to, .. } | Outcome::Reply { to, .. } => to,
+        _ => host::nowhere(),
+    }
+}
+
+impl FlatStep {
+    // What a call at a time comes to, of a host whose clock stands at another.
+    pub(crate) fn of_call(clock: u64, time: u64, came: Result<Served, Refusal>) -> FlatStep
+        ensures { result ≡ flat_served clock time came }
+    {
+        match came {
+            Ok(Served { outcome, change }) => FlatStep {
+                clock: time,
+                name: match change {
+                    Some(named) => FlatName::from(named.state),
+                    None => FlatName::default(),
+                },
+                outcome: FlatOutcome::from(outcome),
+                to: destination(outcome),
+                changed: change.is_some(),
+            },
+            Err(refusal) => FlatStep {
+                clock,
+                name: FlatName::default(),
+                outcome: FlatOutcome::from(refusal),
+                to: host::nowhere(),
+                changed: false,
+            },
+        }
     }
 }

@@ -1,16 +1,19 @@
 // The state of a lookup as a flat struct, and back. Any flat value stands for some state.
 ghost use Rattle.std.specs.Prelude.{◌≡◌};
-ghost use Rattle.lookup.specs.Outcomes.{result_of};
-ghost use Rattle.llmnr_c.specs.Outcomes.{flat_lookup_outcome};
-ghost use Rattle.llmnr_c.specs.FlatLookup.{phase_of, lookup_of, phase_number, sends_in, due_in, flat_lookup, flat_step};
+ghost use Rattle.lookup.specs.Outcomes.{told, sent_to};
+ghost use Rattle.llmnr_c.specs.FlatLookup.{lookup_of, phase_number, sends_in, due_in};
+ghost use Rattle.llmnr_c.specs.FlatLookup.{flat_lookup, flat_start, flat_step};
 
 use crate::outcome::FlatOutcome;
 use host::Timer;
-use lookup::{Lookup, Phase, Step};
+use lookup::{FirstQuery, Lookup, Outcome, Phase};
 use names::Name;
 use octets::{Endpoint, Setting};
+use refusal::Refusal;
 
-// A lookup: the number of its phase, and of a phase with data these; what the phase does not use is zero.
+/// A lookup: the number of its phase, and of a phase with data these; what the phase does not use
+/// is zero. Any number that no phase has counts as Ended.
+// A number for the phase, and a name with a length beside it: the C interface.
 #[repr(C)]
 #[derive(Clone, Copy)]
 pub struct FlatLookup {
@@ -26,6 +29,7 @@ pub struct FlatLookup {
     pub due: u64,
 }
 
+// The numbers of the phases in include/llmnr.h: the C interface.
 impl FlatLookup {
     pub const ENDED: u8 = 0;
 
@@ -34,7 +38,8 @@ impl FlatLookup {
     pub const COLLECTING: u8 = 2;
 }
 
-// What a start comes to.
+/// What a start comes to.
+// A flat struct beside FirstQuery: the C interface.
 #[repr(C)]
 #[derive(Clone, Copy)]
 pub struct FlatLookupStart {
@@ -43,7 +48,8 @@ pub struct FlatLookupStart {
     pub to: Endpoint,
 }
 
-// What a later call comes to: the clock and the phase of the lookup after it.
+/// What a later call comes to: the clock and the phase of the lookup after it.
+// A number for the phase: the C interface.
 #[repr(C)]
 #[derive(Clone, Copy)]
 pub struct FlatLookupStep {
@@ -55,115 +61,123 @@ pub struct FlatLookupStep {
     pub sends: u8,
 }
 
-// The phase that numbers stand for. A number that no phase has counts as Ended.
-fn phase_of(number: u8, sends: u8, due: u64) -> Phase
-    ensures { result ≡ phase_of number sends due }
-{
-    let timer = Timer { due: due };
-    match number {
-        FlatLookup::ASKING => Phase::Asking { sends, timer },
-        FlatLookup::COLLECTING => Phase::Collecting { timer },
-        _ => Phase::Ended,
+impl From<FlatLookup> for Lookup {
+    ghost from_gives = { λ flat lookup. lookup ≡ lookup_of flat };
+
+    fn from(flat: FlatLookup) -> Lookup {
+        let FlatLookup {
+            settings,
+            interface,
+            name,
+            len,
+            qtype,
+            id,
+            clock,
+            phase,
+            sends,
+            due,
+        } = flat;
+        let timer = Timer { due };
+        let phase = match phase {
+            FlatLookup::ASKING => Phase::Asking { sends, timer },
+            FlatLookup::COLLECTING => Phase::Collecting { timer },
+            _ => Phase::Ended,
+        };
+        Lookup {
+            settings,
+            interface,
+            name,
+            len,
+            qtype,
+            id,
+            clock,
+            phase,
+        }
     }
 }
 
-// The lookup that a flat one stands for.
-pub(crate) fn lookup_of(flat: FlatLookup) -> Lookup
-    ensures { result ≡ lookup_of flat }
-{
-    let phase = phase_of(flat.phase, flat.sends, flat.due);
-    let settings = flat.settings;
-    let name = flat.name;
-    Lookup {
-        settings: settings,
-        interface: flat.interface,
-        name: name,
-        len: flat.len,
-        qtype: flat.qtype,
-        id: flat.id,
-        clock: flat.clock,
-        phase: phase,
-    }
-}
-
-fn phase_number(phase: Phase) -> u8
-    ensures { result ≡ phase_number phase }
+// A phase as its number, its sends, and when it is due.
+fn numbers(phase: Phase) -> (u8, u8, u64)
+    ensures { result ≡ (phase_number phase, sends_in phase, due_in phase) }
 {
     match phase {
-        Phase::Asking { sends: _, timer: _ } => FlatLookup::ASKING,
-        Phase::Collecting { timer: _ } => FlatLookup::COLLECTING,
-        Phase::Ended => FlatLookup::ENDED,
+        Phase::Asking { sends, timer } => (FlatLookup::ASKING, sends, timer.due),
+        Phase::Collecting { timer } => (FlatLookup::COLLECTING, 0, timer.due),
+        Phase::Ended => (FlatLookup::ENDED, 0, 0),
     }
 }
 
-fn sends_in(phase: Phase) -> u8
-    ensures { result ≡ sends_in phase }
-{
-    match phase {
-        Phase::Asking { sends, timer: _ } => sends,
-        Phase::Collecting { timer: _ } => 0,
-        Phase::Ended => 0,
+impl From<Lookup> for FlatLookup {
+    ghost from_gives = { λ lookup flat. flat ≡ flat_lookup lookup };
+
+    fn from(lookup: Lookup) -> FlatLookup {
+        let Lookup {
+            settings,
+            interface,
+            name,
+            len,
+            qtype,
+            id,
+            clock,
+            phase,
+        } = lookup;
+        let (phase, sends, due) = numbers(phase);
+        FlatLookup {
+            settings,
+            interface,
+            name,
+            len,
+            qtype,
+            id,
+            clock,
+            phase,
+            sends,
+            due,
+        }
     }
 }
 
-fn due_in(phase: Phase) -> u64
-    ensures { result ≡ due_in phase }
-{
-    match phase {
-        Phase::Asking { sends: _, timer } => timer.due,
-        Phase::Collecting { timer } => timer.due,
-        Phase::Ended => 0,
+impl From<Result<FirstQuery, Refusal>> for FlatLookupStart {
+    ghost from_gives = { λ result start. start ≡ flat_start result };
+
+    fn from(came: Result<FirstQuery, Refusal>) -> FlatLookupStart {
+        match came {
+            Ok(FirstQuery { lookup, len, to }) => FlatLookupStart {
+                lookup: FlatLookup::from(lookup),
+                outcome: FlatOutcome::from(Outcome::Query { len, to }),
+                to,
+            },
+            Err(refusal) => FlatLookupStart {
+                lookup: FlatLookup::from(Lookup::ended()),
+                outcome: FlatOutcome::from(refusal),
+                to: host::nowhere(),
+            },
+        }
     }
 }
 
-fn flat_lookup(lookup: Lookup) -> FlatLookup
-    ensures { result ≡ flat_lookup lookup }
+// Where the octets that were written go; nowhere where none were.
+// That of flat takes another enum: a trait for the two would be no plainer.
+fn destination(came: Result<Outcome, Refusal>) -> Endpoint
+    ensures { result ≡ sent_to came }
 {
-    let settings = lookup.settings;
-    let name = lookup.name;
-    let phase = lookup.phase;
-    FlatLookup {
-        settings: settings,
-        interface: lookup.interface,
-        name: name,
-        len: lookup.len,
-        qtype: lookup.qtype,
-        id: lookup.id,
-        clock: lookup.clock,
-        phase: phase_number(phase),
-        sends: sends_in(phase),
-        due: due_in(phase),
+    match came {
+        Ok(Outcome::Query { to, .. }) => to,
+        _ => host::nowhere(),
     }
 }
 
-pub(crate) fn flat_start(step: Step) -> FlatLookupStart
-    ensures { result ≡ record { lookup = flat_lookup step.lookup; outcome = flat_lookup_outcome (result_of step.outcome); to = step.to } }
+// What a call has left of a lookup, and what it comes to.
+pub(crate) fn step(lookup: &Lookup, came: Result<Outcome, Refusal>) -> FlatLookupStep
+    ensures { result ≡ flat_step lookup.now (told came) (sent_to came) }
 {
-    let lookup = flat_lookup(step.lookup);
-    let came = step.outcome;
-    let outcome = crate::outcome::of_lookup(came);
-    let to = step.to;
-    FlatLookupStart {
-        lookup,
-        outcome,
-        to,
-    }
-}
-
-pub(crate) fn flat_step(step: Step) -> FlatLookupStep
-    ensures { result ≡ flat_step step.lookup (result_of step.outcome) step.to }
-{
-    let lookup = step.lookup;
-    let phase = lookup.phase;
-    let came = step.outcome;
-    let outcome = crate::outcome::of_lookup(came);
-    let to = step.to;
+    let (phase, sends, due) = numbers(lookup.phase);
     FlatLookupStep {
         clock: lookup.clock,
-        due: due_in(phase),
-        outcome: outcome,
-        to: to,
-        phase: phase_number(phase),
-        sends: sends_in(phase),
+        due,
+        outcome: FlatOutcome::from(came),
+        to: destination(came),
+        phase,
+        sends,
     }
 }

@@ -1,17 +1,18 @@
 // What a call comes to, as numbers.
 ghost use Rattle.std.specs.Prelude.{◌≡◌};
 ghost use Rattle.refusal.specs.Numbers.{report_of};
-ghost use Rattle.host.specs.Outcomes.{result_of};
-ghost use Rattle.responder.specs.Served.{changes};
-ghost use Rattle.lookup.specs.Outcomes.{result_of as lookup_result_of};
-ghost use Rattle.llmnr_c.specs.Outcomes.{offset_in, flat_refusal, said as said_of, heard as heard_of, flat_outcome, flat_lookup_outcome};
+ghost use Rattle.host.specs.Outcomes.{result_of, told};
+ghost use Rattle.lookup.specs.Outcomes.{result_of as lookup_result_of, told as lookup_told};
+ghost use Rattle.llmnr_c.specs.Outcomes.{flat_refusal, flat_outcome, flat_lookup_outcome};
 
 use refusal::Refusal;
 
-// The number of what a call says; with a refusal its number, and its offset if it has one; of a response where its answers begin, and how
-// many there are; the number of a name; the octets written.
+/// The number of what a call says; with a refusal its number, and its offset if it has one; of a
+/// response where its answers begin, and how many there are; the number of a name; the octets
+/// written. What does not go with it is zero.
+// Numbers and fields that are zero, and no enum: the C interface.
 #[repr(C)]
-#[derive(Clone, Copy)]
+#[derive(Clone, Copy, Default)]
 pub struct FlatOutcome {
     pub what: u8,
     pub refusal: u8,
@@ -21,6 +22,7 @@ pub struct FlatOutcome {
     pub len: usize,
 }
 
+// The numbers of what a call says in include/llmnr.h: the C interface.
 impl FlatOutcome {
     pub const REFUSED: u8 = 0;
 
@@ -49,96 +51,74 @@ impl FlatOutcome {
     pub const NO_SUCH_NAME: u8 = 12;
 }
 
-// The offset that a refusal comes with; 0 if with none.
-fn offset(refusal: Refusal) -> usize
-    ensures { result ≡ offset_in (report_of refusal) }
-{
-    match refusal {
-        Refusal::Table { at } => at,
-        _ => 0,
+impl From<Refusal> for FlatOutcome {
+    ghost from_gives = { λ refusal flat. flat ≡ flat_refusal (report_of refusal) };
+
+    fn from(refusal: Refusal) -> FlatOutcome {
+        let at = match refusal {
+            Refusal::Table { at } => at,
+            _ => 0,
+        };
+        FlatOutcome {
+            what: FlatOutcome::REFUSED,
+            refusal: refusal.number(),
+            at,
+            ..FlatOutcome::default()
+        }
     }
 }
 
-pub(crate) fn refused(refusal: Refusal) -> FlatOutcome
-    ensures { result ≡ flat_refusal (report_of refusal) }
-{
-    FlatOutcome {
-        what: FlatOutcome::REFUSED,
-        refusal: refusal.number(),
-        answers: 0,
-        at: offset(refusal),
-        name: 0,
-        len: 0,
+impl From<host::Outcome> for FlatOutcome {
+    ghost from_gives = { λ outcome flat. flat ≡ flat_outcome (result_of outcome) };
+
+    fn from(outcome: host::Outcome) -> FlatOutcome {
+        let (what, name, len) = match outcome {
+            host::Outcome::Quiet => (FlatOutcome::QUIET, 0, 0),
+            host::Outcome::Kept { name } => (FlatOutcome::KEPT, name, 0),
+            host::Outcome::Query { name, len, .. } => (FlatOutcome::QUERY, name, len),
+            host::Outcome::Reply { len, .. } => (FlatOutcome::REPLY, 0, len),
+            host::Outcome::Unique { name } => (FlatOutcome::UNIQUE, name, 0),
+            host::Outcome::Shared { name } => (FlatOutcome::SHARED, name, 0),
+            host::Outcome::Stopped { name } => (FlatOutcome::STOPPED, name, 0),
+        };
+        FlatOutcome {
+            what,
+            name,
+            len,
+            ..FlatOutcome::default()
+        }
     }
 }
 
-fn said(what: u8, name: usize, len: usize) -> FlatOutcome
-    ensures { result ≡ said_of what name len }
-{
-    FlatOutcome {
-        what: what,
-        refusal: 0,
-        answers: 0,
-        at: 0,
-        name: name,
-        len: len,
+impl From<lookup::Outcome> for FlatOutcome {
+    ghost from_gives = { λ outcome flat. flat ≡ flat_lookup_outcome (lookup_result_of outcome) };
+
+    fn from(outcome: lookup::Outcome) -> FlatOutcome {
+        let (what, at, answers, len) = match outcome {
+            lookup::Outcome::Quiet => (FlatOutcome::QUIET, 0, 0, 0),
+            lookup::Outcome::Query { len, .. } => (FlatOutcome::QUERY, 0, 0, len),
+            lookup::Outcome::Part { at, answers } => (FlatOutcome::PART, at, answers, 0),
+            lookup::Outcome::Found { at, answers } => (FlatOutcome::FOUND, at, answers, 0),
+            lookup::Outcome::Collected => (FlatOutcome::COLLECTED, 0, 0, 0),
+            lookup::Outcome::NoSuchName => (FlatOutcome::NO_SUCH_NAME, 0, 0, 0),
+        };
+        FlatOutcome {
+            what,
+            answers,
+            at,
+            len,
+            ..FlatOutcome::default()
+        }
     }
 }
 
-fn heard(what: u8, at: usize, answers: u16) -> FlatOutcome
-    ensures { result ≡ heard_of what at answers }
-{
-    FlatOutcome {
-        what: what,
-        refusal: 0,
-        answers: answers,
-        at: at,
-        name: 0,
-        len: 0,
-    }
-}
+impl From<Result<lookup::Outcome, Refusal>> for FlatOutcome {
+    ghost from_gives = { λ result flat. flat ≡ flat_lookup_outcome (lookup_told result) };
 
-// Of a call of a host.
-pub(crate) fn of_host(outcome: host::Outcome) -> FlatOutcome
-    ensures { result ≡ flat_outcome (result_of outcome) }
-{
-    match outcome {
-        host::Outcome::Refused(refusal) => refused(refusal),
-        host::Outcome::Ready => said(FlatOutcome::READY, 0, 0),
-        host::Outcome::Quiet => said(FlatOutcome::QUIET, 0, 0),
-        host::Outcome::Kept { name } => said(FlatOutcome::KEPT, name, 0),
-        host::Outcome::Query { name, len } => said(FlatOutcome::QUERY, name, len),
-        host::Outcome::Reply { len } => said(FlatOutcome::REPLY, 0, len),
-        host::Outcome::Unique { name } => said(FlatOutcome::UNIQUE, name, 0),
-        host::Outcome::Shared { name } => said(FlatOutcome::SHARED, name, 0),
-        host::Outcome::Stopped { name } => said(FlatOutcome::STOPPED, name, 0),
-    }
-}
-
-// Whether the name that it tells has a new state.
-pub(crate) fn changes_name(outcome: host::Outcome) -> bool
-    ensures { result ≡ changes (result_of outcome) }
-{
-    match outcome {
-        host::Outcome::Query { name: _, len: _ } => true,
-        host::Outcome::Unique { name: _ } => true,
-        host::Outcome::Shared { name: _ } => true,
-        host::Outcome::Stopped { name: _ } => true,
-        _ => false,
-    }
-}
-
-// Of a call of a lookup.
-pub(crate) fn of_lookup(outcome: lookup::Outcome) -> FlatOutcome
-    ensures { result ≡ flat_lookup_outcome (lookup_result_of outcome) }
-{
-    match outcome {
-        lookup::Outcome::Refused(refusal) => refused(refusal),
-        lookup::Outcome::Quiet => said(FlatOutcome::QUIET, 0, 0),
-        lookup::Outcome::Query { len } => said(FlatOutcome::QUERY, 0, len),
-        lookup::Outcome::Part { at, answers } => heard(FlatOutcome::PART, at, answers),
-        lookup::Outcome::Found { at, answers } => heard(FlatOutcome::FOUND, at, answers),
-        lookup::Outcome::Collected => said(FlatOutcome::COLLECTED, 0, 0),
-        lookup::Outcome::NoSuchName => said(FlatOutcome::NO_SUCH_NAME, 0, 0),
+    fn from(came: Result<lookup::Outcome, Refusal>) -> FlatOutcome {
+        match came {
+            Ok(outcome) => FlatOutcome::from(outcome),
+            Err(refusal) => FlatOutcome::from(refusal),
+        }
     }
 }

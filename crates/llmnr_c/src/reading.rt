@@ -1,15 +1,15 @@
 // A record of a datagram, and the check of a name table, as flat structs.
 ghost use Rattle.std.specs.Prelude.{◌≡◌};
-ghost use Rattle.name_table.specs.Check.{check_table};
-ghost use Rattle.message.specs.Records.{record_at};
-ghost use Rattle.llmnr_c.specs.Reading.{flat_record, flat_table};
+ghost use Rattle.llmnr_c.specs.Reading.{flat_record, flat_read};
 
-use message::RecordRead;
-use name_table::Table;
+use message::ResourceRecord;
+use name_table::{BadTable, Table};
 
-// A record: type, class, TTL in seconds, where its data stands, and where the next record begins. All zero where there is none.
+/// A record: type, class, TTL in seconds, where its data stands, and where the next record begins.
+/// All zero where there is none.
+// A flag beside values, and no Option: the C interface.
 #[repr(C)]
-#[derive(Clone, Copy)]
+#[derive(Clone, Copy, Default)]
 pub struct FlatRecord {
     pub good: bool,
     pub rtype: u16,
@@ -20,49 +20,50 @@ pub struct FlatRecord {
     pub next: usize,
 }
 
-// How many names a good table has; of a bad one the offset of its first bad entry.
+/// How many names a good table has; of a bad one the offset of its first bad entry.
+// A flag beside values, and no Result: the C interface.
 #[repr(C)]
-#[derive(Clone, Copy)]
+#[derive(Clone, Copy, Default)]
 pub struct FlatTable {
     pub good: bool,
     pub names: usize,
     pub at: usize,
 }
 
-pub(crate) fn record(datagram: &[u8], at: usize) -> FlatRecord
-    ensures { result ≡ flat_record (record_at datagram.now at) }
-{
-    let read = message::read_record(datagram, at);
-    match read {
-        RecordRead::Good(r) => FlatRecord {
-            good: true,
-            rtype: r.rtype,
-            rclass: r.class,
-            ttl: r.ttl,
-            start: r.start,
-            len: r.len,
-            next: r.next,
-        },
-        RecordRead::Bad => FlatRecord {
-            good: false,
-            rtype: 0,
-            rclass: 0,
-            ttl: 0,
-            start: 0,
-            len: 0,
-            next: 0,
-        },
+impl From<Option<ResourceRecord>> for FlatRecord {
+    ghost from_gives = { λ record_read flat. flat ≡ flat_record record_read };
+
+    fn from(read: Option<ResourceRecord>) -> FlatRecord {
+        match read {
+            Some(record) => FlatRecord {
+                good: true,
+                rtype: record.rtype,
+                rclass: record.class,
+                ttl: record.ttl,
+                start: record.start,
+                len: record.len,
+                next: record.next,
+            },
+            None => FlatRecord::default(),
+        }
     }
 }
 
-pub(crate) fn check_table(table: &[u8]) -> FlatTable
-    ensures { result ≡ flat_table (check_table table.now) }
-{
-    let read = Table::read(table);
-    let names = read.table;
-    FlatTable {
-        good: read.good,
-        names: names.names,
-        at: read.at,
+impl From<Result<Table, BadTable>> for FlatTable {
+    ghost from_gives = { λ table flat. flat ≡ flat_read table };
+
+    fn from(read: Result<Table, BadTable>) -> FlatTable {
+        match read {
+            Ok(table) => FlatTable {
+                good: true,
+                names: table.len(),
+                at: 0,
+            },
+            Err(bad) => FlatTable {
+                good: false,
+                names: 0,
+                at: bad.at,
+            },
+        }
     }
 }

@@ -1,27 +1,16 @@
 -- Tests of the definitions, as the plain conditions of specs/Refusals.antt and specs/ExactlyWhen.antt.
-use Prim.Native.Nat.{ℕ, ◌<◌, ◌≤◌}
-use mathlib.Core.Path.{◌≡◌, refl, sym, ap, ◌∙◌, subst}
+use Rattle.names.specs.declared.Name.{Name}
+use Rattle.std.proofs.Common.{None, Option, Some, Result, Ok, Err, ℕ, ◌<◌, ◌≤◌, ◌≡◌, refl, sym, ap, ◌∙◌, subst, ◌↔◌, ◌⊎◌, List, [], ◌∷◌, Bool, true, false, not, arith, length, take, length-append, eqb, eq-eqb, ne_eqb}
+use Rattle.std.proofs.Math.Seq.{take-length}
 use mathlib.Core.Logic.Iff
-use mathlib.Core.Logic.{◌↔◌, ◌⊎◌}
-use mathlib.Core.List.{List, [], ◌∷◌}
-use mathlib.Core.Bool.{Bool, true, false, not}
-use native.Mathlib.Omega.{arith}
-use lib.ListN.{length, take, length-append}
-use lib.Seq.{take-length}
-use lib.Dec.{eqb}
-use borrow.Author.Tests.{eq-eqb, ne_eqb}
 use Rattle.octets.specs.Octets.{Octets}
 use Rattle.octets.specs.declared.Setting.{Setting}
 use Rattle.octets.proofs.Tests.{never, both, either_is, same_number, below_number, upto_number, either_number, neither_number, not_not, not_below, not_upto, neither}
 use Rattle.names.specs.Names.{Labels, encode}
-use Rattle.names.specs.declared.NameRead.{NameRead}
-use Rattle.names.specs.declared.NameRead.TheVariants.{Good, Bad}
 use Rattle.names.specs.NameWalk.{labels_of, name_at}
 use Rattle.names.proofs.Names.{encode_some, reads_a_name, reads_alone}
 use Rattle.names.proofs.Folding.{same_name_is}
 use Rattle.message.specs.declared.Question.{Question}
-use Rattle.message.specs.declared.Walked.{Walked}
-use Rattle.message.specs.declared.Walked.TheVariants.{End, Stopped}
 use Rattle.message.specs.Records.{walk_from}
 use Rattle.message.proofs.Records.{stops}
 use Rattle.host.specs.Early.{no_interface, bad_clock}
@@ -65,16 +54,16 @@ root_alone [] e = refl
 root_alone (l ∷ n) e = absurd (omega (arith, encode_some n, length-append l (encode n)))
 
 -- a name to be looked up is read whole
-read_is : (octets : List ℕ) (w : IsToLookUp octets) → name_at octets 0 ≡ Good (record { len = length octets; labels = length w.name })
+read_is : (octets : List ℕ) (w : IsToLookUp octets) → name_at octets 0 ≡ Some (record { len = length octets; labels = length w.name })
 read_is octets w =
-    subst (λ (x : List ℕ). name_at x 0 ≡ Good (record { len = length x; labels = length w.name })) (sym w.octets_are)
+    subst (λ (x : List ℕ). name_at x 0 ≡ Some (record { len = length x; labels = length w.name })) (sym w.octets_are)
     (reads_alone w.name w.is_name)
 
 pub name_is : (octets : List ℕ) → Octets octets → (bad_name octets (name_at octets 0) ≡ false) ↔ IsToLookUp octets
 name_is octets o = (λ b. to (name_at octets 0) refl b, from)
   where
-    to : (r : NameRead) → name_at octets 0 ≡ r → bad_name octets r ≡ false → IsToLookUp octets
-    to (Good n) e b =
+    to : (r : Option Name) → name_at octets 0 ≡ r → bad_name octets r ≡ false → IsToLookUp octets
+    to (Some n) e b =
         let f = (neither _ _).0 b in
         let m : n.len ≡ length octets = (same_number _ _).0 ((not_not _).0 f.1) in
         let r = ((reads_a_name octets 0 n o).0 e).name_at in
@@ -85,7 +74,7 @@ name_is octets o = (λ b. to (name_at octets 0) refl b, from)
           not_root = λ z. never (eq-eqb _ _ (r.len_is ∙ ap (λ (y : Labels). length (encode y)) z)) f.0;
           octets_are = x;
         }
-    to Bad e b = never refl b
+    to None e b = never refl b
 
     from : IsToLookUp octets → bad_name octets (name_at octets 0) ≡ false
     from w =
@@ -98,7 +87,7 @@ name_is octets o = (λ b. to (name_at octets 0) refl b, from)
 module _ (permission : Bool) (octets : List ℕ) (w : IsToLookUp octets) where
   several_here : several_labels permission octets (labels_of (name_at octets 0)) ≡ several_labels permission (encode w.name) (length w.name)
   several_here =
-      ap (λ (r : NameRead). several_labels permission octets (labels_of r)) (read_is octets w)
+      ap (λ (r : Option Name). several_labels permission octets (labels_of r)) (read_is octets w)
       ∙ ap (λ (x : List ℕ). several_labels permission x (length w.name)) w.octets_are
 
   pub name_several : (several_labels permission octets (labels_of (name_at octets 0)) ≡ true) ↔ HasSeveral permission w.name
@@ -145,6 +134,6 @@ pub cut_is : (a : Arrival) (q : Question) → Octets a.datagram
     → (is_stopped (walk_from (header a).answers a.datagram q.end) ≡ true) ↔ IsCutShort a q
 cut_is a q o = (λ e. to (walk_from (header a).answers a.datagram q.end) refl e, λ w. ap is_stopped ((stops _ _ _ _ o).1 w.1))
   where
-    to : (w : Walked) → walk_from (header a).answers a.datagram q.end ≡ w → is_stopped w ≡ true → IsCutShort a q
-    to (End at) e s = never s refl
-    to (Stopped at) e s = (at, (stops _ _ _ _ o).0 e)
+    to : (w : Result ℕ ℕ) → walk_from (header a).answers a.datagram q.end ≡ w → is_stopped w ≡ true → IsCutShort a q
+    to (Ok at) e s = never s refl
+    to (Err at) e s = (at, (stops _ _ _ _ o).0 e)

@@ -1,11 +1,5 @@
 -- A lookup that hears nothing and is ticked when due ends with no such name after three intervals.
-use Prim.Native.Nat.{ℕ, ◌+◌, ◌<◌, ◌≤◌}
-use mathlib.Core.Path.{◌≡◌, refl, sym, ap, ◌∙◌, subst}
-use mathlib.Core.List.{List, ◌++◌}
-use mathlib.Core.Bool.{Bool}
-use native.Mathlib.Omega.{arith}
-use lib.ListN.{length, get_or, take, drop, replicate, length-append, length-drop}
-use lib.Seq.{take_at}
+use Rattle.std.proofs.Common.{ℕ, ◌+◌, ◌<◌, ◌≤◌, ◌≡◌, refl, sym, ap, ◌∙◌, subst, List, ◌++◌, Bool, arith, length, get_or, take, drop, replicate, length-append, length-drop, take_at}
 use Rattle.octets.specs.Octets.{Octets}
 use Rattle.octets.specs.Addresses.{unused}
 use Rattle.octets.specs.declared.Setting.{Setting}

@@ -1,10 +1,6 @@
 -- Laws of the three calls: a refusal changes nothing; an accepted call sets the clock; what a lookup asks never changes after its start; a
 -- datagram with T set is refused.
-use Prim.Native.Nat.{ℕ}
-use mathlib.Core.Path.{◌≡◌, refl, ap}
-use mathlib.Core.List.{List}
-use mathlib.Core.Bool.{Bool, true}
-use native.Mathlib.Omega.{arith}
+use Rattle.std.proofs.Common.{ℕ, ◌≡◌, refl, ap, List, Bool, true, arith}
 use Rattle.octets.specs.declared.Setting.{Setting}
 use Rattle.octets.proofs.Tests.{split, never}
 use Rattle.refusal.specs.Numbers.{Report}

@@ -1,19 +1,11 @@
 -- At most three queries go out in any list of calls on one lookup, its start included, all with the same octets.
-use Prim.Native.Nat.{ℕ, suc, ◌+◌, ◌-◌, ◌≤◌}
-use mathlib.Core.Path.{◌≡◌, refl, ap, ◌∙◌, subst}
-use mathlib.Core.List.{List, [], ◌∷◌, ◌++◌}
-use mathlib.Core.Bool.{Bool, false, not}
-use native.Mathlib.Omega.{arith}
-use lib.ListN.{length, take, replicate}
-use lib.Dec.{eqb}
-use borrow.Author.Tests.{eqb-true}
+use Rattle.names.specs.declared.Name.{Name}
+use Rattle.std.proofs.Common.{None, Option, Some, ℕ, suc, ◌+◌, ◌-◌, ◌≤◌, ◌≡◌, refl, ap, ◌∙◌, subst, List, [], ◌∷◌, ◌++◌, Bool, false, not, arith, length, take, replicate, eqb, eqb-true}
 use Rattle.octets.specs.Octets.{put}
 use Rattle.octets.specs.declared.Setting.{Setting}
 use Rattle.octets.proofs.Tests.{split, never, not_below, not_not, neither}
 use Rattle.octets.proofs.Splice.{front}
 use Rattle.names.specs.Bounds.{longest_name}
-use Rattle.names.specs.declared.NameRead.{NameRead}
-use Rattle.names.specs.declared.NameRead.TheVariants.{Good, Bad}
 use Rattle.names.specs.NameWalk.{name_at}
 use Rattle.names.proofs.NameWalk.{name_fits}
 use Rattle.message.specs.Bounds.{class_in}
@@ -101,11 +93,11 @@ sends_few l q k (ticks time id out ∷ cs) = after_tick l q k cs (λ m j. sends_
 -- ---- from a start
 
 -- a name that passes check 10 has at most 255 octets
-name_short : (name : List ℕ) (r : NameRead) → name_at name 0 ≡ r → bad_name name r ≡ false → length name ≤ 255
-name_short name (Good n) e b =
+name_short : (name : List ℕ) (r : Option Name) → name_at name 0 ≡ r → bad_name name r ≡ false → length name ≤ 255
+name_short name (Some n) e b =
     let f = (neither (eqb n.len 1) (not (eqb n.len (length name)))).0 b in
     omega (arith, (name_fits name 0 n e).0, eqb-true n.len (length name) ((not_not (eqb n.len (length name))).0 f.1))
-name_short name Bad e b = never refl b
+name_short name None e b = never refl b
 
 query_short : (id : ℕ) (name : List ℕ) (qtype : ℕ) → length name ≤ 255 → length (query_for id name qtype) ≤ room
 query_short id name qtype l = omega (arith, query_length id 0 (question_octets name qtype class_in), question_length name qtype class_in)

@@ -1,13 +1,6 @@
 -- A response is found, or is a part of what is collected, exactly under the conditions of specs/ExactlyWhen.antt, and what each then
 -- gives, whole.
-use Prim.Native.Nat.{ℕ}
-use mathlib.Core.Path.{◌≡◌, refl, sym, ap, ◌∙◌, subst}
-use mathlib.Core.Logic.{◌↔◌}
-use mathlib.Core.List.{List}
-use mathlib.Core.Bool.{Bool, true, false, cond, not}
-use native.Mathlib.Omega.{arith}
-use lib.ListN.{length}
-use lib.Dec.{eqb}
+use Rattle.std.proofs.Common.{Result, Ok, Err, ℕ, ◌≡◌, refl, sym, ap, ◌∙◌, subst, ◌↔◌, List, Bool, true, false, cond, not, arith, length, eqb}
 use Rattle.octets.specs.Tests.{◌and◌, ◌or◌}
 use Rattle.octets.specs.Octets.{Octets}
 use Rattle.octets.specs.Addresses.{is_group}
@@ -18,8 +11,6 @@ use Rattle.refusal.specs.Checks.{Clear, passed, Gives, next, done}
 use Rattle.refusal.proofs.Checks.{gives}
 use Rattle.message.specs.declared.Question.{Question}
 use Rattle.message.specs.declared.ResourceRecord.{ResourceRecord}
-use Rattle.message.specs.declared.Walked.{Walked}
-use Rattle.message.specs.declared.Walked.TheVariants.{End, Stopped}
 use Rattle.message.specs.Header.{header_of}
 use Rattle.message.specs.Question.{question_or, is_bad_question}
 use Rattle.message.specs.Records.{walk_from, AreRecords}
@@ -80,10 +71,10 @@ module _ (l : Lookup) (a : Arrival) (o : Octets a.datagram) where
         as_many = w.1.1;
       }
     where
-      walked_to : (w : Walked) → walk_from (header a).answers a.datagram (question a).end ≡ w → is_stopped w ≡ false
+      walked_to : (w : Result ℕ ℕ) → walk_from (header a).answers a.datagram (question a).end ≡ w → is_stopped w ≡ false
           → (e : ℕ) × ((rs : List ResourceRecord) × (length rs ≡ (header a).answers) × AreRecords a.datagram (question a).end rs e)
-      walked_to (End e) f s = (e, (walks _ _ _ e o).0 f)
-      walked_to (Stopped p) f s = never refl s
+      walked_to (Ok e) f s = (e, (walks _ _ _ e o).0 f)
+      walked_to (Err p) f s = never refl s
 
   same_question : (q : Question) → HearsWhen l a q → question a ≡ q
   same_question q w = ap question_or ((reads_a_question a.datagram 12 q o).1 w.question)

@@ -1,12 +1,7 @@
 -- Refused exactly: start, receive and tick give a refusal number exactly where its condition holds and those before it do not, as
 -- specs/Refusals.antt lists them.
-use Prim.Native.Nat.{ℕ}
-use mathlib.Core.Path.{◌≡◌, refl, sym, ap, subst}
+use Rattle.std.proofs.Common.{None, Option, Some, ℕ, ◌≡◌, refl, sym, ap, subst, ◌↔◌, List, Bool, true, false, get_or}
 use mathlib.Core.Logic.Iff
-use mathlib.Core.Logic.{◌↔◌}
-use mathlib.Core.List.{List}
-use mathlib.Core.Bool.{Bool, true, false}
-use lib.ListN.{get_or}
 use Rattle.octets.specs.Octets.{Octets}
 use Rattle.octets.specs.Addresses.{unused}
 use Rattle.octets.specs.declared.Setting.{Setting}
@@ -17,8 +12,6 @@ use Rattle.refusal.specs.Checks.{Verdict, refused as refused_by, passed, verdict
 use Rattle.refusal.specs.Cases.{First}
 use Rattle.refusal.proofs.Cases.{Exactly, ends, check, skip, told_by}
 use Rattle.message.specs.declared.Question.{Question}
-use Rattle.message.specs.declared.QuestionRead.{QuestionRead}
-use Rattle.message.specs.declared.QuestionRead.TheVariants.{Good, Bad}
 use Rattle.message.specs.Question.{question_at, question_or, is_bad_question, IsQuestion}
 use Rattle.message.proofs.Questions.{reads_a_question, reads_no_question}
 use Rattle.host.proofs.Conditions.{question_good}
@@ -81,11 +74,11 @@ module _ (l : Lookup) (a : Arrival) (o : Octets a.datagram) where
   question_bad : (is_bad_question (question_at a.datagram 12) ≡ true) ↔ ((q : Question) → IsQuestion a.datagram 12 q → ⊥)
   question_bad = Iff.trans (bad_is (question_at a.datagram 12)) (reads_no_question a.datagram 12 o)
     where
-      bad_is : (r : QuestionRead) → (is_bad_question r ≡ true) ↔ (r ≡ Bad)
-      bad_is (Good q) = (λ e. never e refl, λ e. never (ap is_bad_question e) refl)
-      bad_is Bad = (λ e. refl, λ e. refl)
+      bad_is : (r : Option Question) → (is_bad_question r ≡ true) ↔ (r ≡ None)
+      bad_is (Some q) = (λ e. never e refl, λ e. never (ap is_bad_question e) refl)
+      bad_is None = (λ e. refl, λ e. refl)
 
-  module _ (r : question_at a.datagram 12 ≡ Good (question a)) where
+  module _ (r : question_at a.datagram 12 ≡ Some (question a)) where
     -- what holds of the question that was read
     of_question : (c : Question → Type 0) → c (question a) ↔ OfQuestion a c
     of_question c = (

@@ -1,9 +1,5 @@
 -- Names of several labels, by computation: which a start without permission refuses with 22, and which it asks for.
-use Prim.Native.Nat.{ℕ}
-use mathlib.Core.Path.{◌≡◌, refl}
-use mathlib.Core.List.{List, [], ◌∷◌, ◌++◌}
-use mathlib.Core.Bool.{Bool, true, false}
-use lib.ListN.{replicate}
+use Rattle.std.proofs.Common.{ℕ, ◌≡◌, refl, List, [], ◌∷◌, ◌++◌, Bool, true, false, replicate}
 use Rattle.refusal.specs.Numbers.{number}
 use Rattle.refusal.specs.Checks.{Verdict, refused, passed, verdict}
 use Rattle.names.specs.Names.{Labels, encode}

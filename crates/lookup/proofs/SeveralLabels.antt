@@ -1,15 +1,8 @@
 -- Names of several labels: the definitions of specs/SeveralLabels.antt in the plain words of specs/Refusals.antt.
-use Prim.Native.Nat.{ℕ, zero, suc, ◌+◌, ◌-◌, ◌<◌, ◌≤◌}
-use mathlib.Core.Path.{◌≡◌, refl, sym, ap, ◌∙◌}
+use Rattle.std.proofs.Common.{ℕ, zero, suc, ◌+◌, ◌-◌, ◌<◌, ◌≤◌, ◌≡◌, refl, sym, ap, ◌∙◌, ◌↔◌, ◌⊎◌, inl, inr, List, [], ◌∷◌, ◌++◌, map, Bool, true, false, not, arith, add-zero, length, get_or, take, drop, length-append, take-append-drop, drop_of_length-le, leb, drop-drop, drop_at, length-take-le, get_or-drop}
+use Rattle.std.proofs.lemmas.List.{map-append, length-map}
+use Rattle.std.proofs.Math.Seq.{drop-nil}
 use mathlib.Core.Logic.Iff
-use mathlib.Core.Logic.{◌↔◌, ◌⊎◌, inl, inr}
-use mathlib.Core.List.{List, [], ◌∷◌, ◌++◌, map, map-append}
-use mathlib.Core.Bool.{Bool, true, false, not}
-use native.Mathlib.Omega.{arith}
-use native.Mathlib.Nat.{add-zero}
-use lib.ListN.{length, get_or, take, drop, length-append, length-map, take-append-drop, drop_of_length-le}
-use lib.Dec.{leb}
-use lib.Seq.{drop-nil, drop-drop, drop_at, length-take-le, get_or-drop}
 use Rattle.octets.specs.Octets.{octet_at}
 use Rattle.octets.specs.Tests.{◌and◌, ◌or◌}
 use Rattle.octets.proofs.Tests.{split, never, cond_same, both, both_is, either_is, upto_number, not_upto, not_true, not_is}

@@ -1,12 +1,6 @@
 -- A tick sends the query again, gives up, ends as found or is quiet, exactly under the conditions of specs/ExactlyWhen.antt, and what each
 -- then gives, whole.
-use Prim.Native.Nat.{ℕ, ◌+◌, ◌≤◌}
-use mathlib.Core.Path.{◌≡◌, ap, ◌∙◌, subst}
-use mathlib.Core.Logic.{◌↔◌}
-use mathlib.Core.List.{List}
-use mathlib.Core.Bool.{Bool, false, cond}
-use native.Mathlib.Omega.{arith}
-use lib.ListN.{length, take, length-take}
+use Rattle.std.proofs.Common.{ℕ, ◌+◌, ◌≤◌, ◌≡◌, ap, ◌∙◌, subst, ◌↔◌, List, Bool, false, cond, arith, length, take, length-take}
 use Rattle.octets.proofs.Tests.{not_below}
 use Rattle.refusal.specs.Numbers.{Report}
 use Rattle.refusal.specs.Checks.{Clear, passed}

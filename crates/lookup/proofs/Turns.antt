@@ -1,10 +1,6 @@
 -- What a tick calls for, by the phase and the time: each turn with its plain conditions.
-use Prim.Native.Nat.{ℕ, ◌<◌, ◌≤◌}
-use mathlib.Core.Path.{◌≡◌, refl}
-use mathlib.Core.Bool.{Bool, true, false, cond}
-use lib.Dec.{ltb, leb}
+use Rattle.std.proofs.Common.{ℕ, ◌<◌, ◌≤◌, ◌≡◌, refl, Bool, true, false, cond, ltb, leb, arith}
 use Rattle.octets.proofs.Tests.{split, never, below_number, upto_number, not_below, not_upto}
-use native.Mathlib.Omega.{arith}
 use Rattle.host.specs.declared.Timer.{Timer}
 use Rattle.lookup.specs.Tick.{Turn, rest, again, give_up, finish, turn_of}
 use Rattle.lookup.specs.ExactlyWhen.{DueBy}

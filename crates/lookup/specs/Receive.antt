@@ -1,5 +1,5 @@
 -- Receive of a lookup: 1, 3 to 5, 15 for a query, 6 to 10, 15, 16, 17, 18; then the response is found, or is a part of what is collected.
-use Rattle.std.specs.Prelude.{ℕ, ◌+◌, List, Bool, true, false, cond, not, length, eqb}
+use Rattle.std.specs.Prelude.{ℕ, ◌+◌, List, Bool, true, false, cond, not, length, eqb, Result, Ok, Err}
 use Rattle.octets.specs.Tests.{◌and◌}
 use Rattle.octets.specs.Octets.{part_of}
 use Rattle.octets.specs.Addresses.{is_ours}
@@ -12,8 +12,6 @@ use Rattle.names.specs.Folding.{same_name}
 use Rattle.message.specs.Bounds.{header_octets, class_in}
 use Rattle.message.specs.declared.Header.{Header}
 use Rattle.message.specs.declared.Question.{Question}
-use Rattle.message.specs.declared.Walked.{Walked}
-use Rattle.message.specs.declared.Walked.TheVariants.{End, Stopped}
 use Rattle.message.specs.Header.{header_of}
 use Rattle.message.specs.Question.{question_at, question_or}
 use Rattle.message.specs.Records.{walk_from}
@@ -60,9 +58,9 @@ abbrev pub awaits : Lookup → Header → Question → List ℕ → Bool
 awaits l x q datagram = waits l.phase x.conflict and matches l.id l.qtype (name_of l) x q datagram
 
 -- the walk over ANCOUNT records stops at a bad one
-abbrev pub is_stopped : Walked → Bool
-is_stopped (End at) = false
-is_stopped (Stopped at) = true
+abbrev pub is_stopped : Result ℕ ℕ → Bool
+is_stopped (Ok at) = false
+is_stopped (Err at) = true
 
 -- the stages. 5, 15 for a query, 6 to 10: of the interface's family, the source's, the destination and the datagram. (11 is never given to
 -- a response.)

@@ -1,5 +1,6 @@
 -- Start of a lookup: 1, 3, 4, 10, 22; then it sends its query. It has no earlier time.
-use Rattle.std.specs.Prelude.{ℕ, List, Bool, true, not, length, get_or, replicate, ltb, eqb}
+use Rattle.names.specs.declared.Name.{Name}
+use Rattle.std.specs.Prelude.{ℕ, List, Bool, true, not, length, get_or, replicate, ltb, eqb, None, Option, Some}
 use Rattle.octets.specs.Tests.{◌or◌}
 use Rattle.octets.specs.Octets.{put}
 use Rattle.octets.specs.Addresses.{unused}
@@ -7,8 +8,6 @@ use Rattle.octets.specs.declared.Setting.{Setting}
 use Rattle.refusal.specs.Numbers.{number}
 use Rattle.refusal.specs.Checks.{Checks, fail, pass, Verdict, refused, passed, verdict}
 use Rattle.names.specs.Bounds.{longest_name}
-use Rattle.names.specs.declared.NameRead.{NameRead}
-use Rattle.names.specs.declared.NameRead.TheVariants.{Good, Bad}
 use Rattle.names.specs.NameWalk.{labels_of, name_at}
 use Rattle.host.specs.Bounds.{latest}
 use Rattle.host.specs.State.{timer_from}
@@ -20,12 +19,12 @@ use Rattle.lookup.specs.declared.Phase.TheVariants.{Asking}
 use Rattle.lookup.specs.declared.Lookup.{Lookup}
 
 -- 10: it is not a name, or it is the root, or octets are left over
-abbrev pub bad_name : List ℕ → NameRead → Bool
-bad_name octets (Good n) = eqb n.len 1 or not (eqb n.len (length octets))
-bad_name octets Bad = true
+abbrev pub bad_name : List ℕ → Option Name → Bool
+bad_name octets (Some n) = eqb n.len 1 or not (eqb n.len (length octets))
+bad_name octets None = true
 
 -- 10, 22: of the start's permission, the name's octets, and what is read there
-abbrev pub name_checks : Bool → List ℕ → NameRead → Checks
+abbrev pub name_checks : Bool → List ℕ → Option Name → Checks
 name_checks permission name read =
     fail (bad_name name read) (number 10)
     (fail (several_labels permission name (labels_of read)) (number 22)

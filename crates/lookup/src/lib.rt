@@ -8,19 +8,22 @@ ghost use Rattle.lookup.specs.State.{ended_lookup};
 use host::Timer;
 use names::Name;
 use octets::{Address, Endpoint, Setting};
-use refusal::Refusal;
 
-// How far a lookup is: it asks, it collects the responses of several hosts that share the name, or it is over.
-#[derive(Clone, Copy)]
+/// How far a lookup is: it asks, it collects the responses of several hosts that share the name, or it is over.
+#[derive(Clone, Copy, PartialEq, Eq, Debug)]
 pub enum Phase {
+    /// Its query was sent so many times; when the timer runs out, it is sent again or nobody has answered.
     Asking { sends: u8, timer: Timer },
+    /// Until the timer runs out.
     Collecting { timer: Timer },
     Ended,
 }
 
-// The settings of the host's interfaces and the number of the one that it asks on; the name, its octets, type and ID of its query; the
-// last accepted time.
-#[derive(Clone, Copy)]
+/// The settings of the host's interfaces and the number of the one that it asks on; the name, its octets, type and ID of its query; the
+/// last accepted time.
+// The name is an array with a length beside it, and no vector: `lookup_of` of llmnr_c makes a lookup of any length that a program in C
+// gives, and `name_of` says what each means.
+#[derive(Clone, Copy, PartialEq, Eq, Debug)]
 pub struct Lookup {
     pub settings: [Setting; Setting::COUNT],
     pub interface: usize,
@@ -32,38 +35,53 @@ pub struct Lookup {
     pub phase: Phase,
 }
 
-// What a call comes to. With a response: the offset where its answers begin, and how many there are.
-#[derive(Clone, Copy)]
-pub enum Outcome {
-    Refused(Refusal),
-    Quiet,
-    Query { len: usize },
-    Part { at: usize, answers: u16 },
-    Found { at: usize, answers: u16 },
-    Collected,
-    NoSuchName,
+/// What a lookup is to ask for: a name, with its zero octet, and a record type. Permission lets a name of several labels by.
+#[derive(Clone, Copy, PartialEq, Eq, Debug)]
+pub struct Asked<'a> {
+    pub name: &'a [u8],
+    pub qtype: u16,
+    pub permission: bool,
 }
 
-// What a call returns: the lookup, the outcome, and where the octets written are to be sent; all zero where nothing is.
-#[derive(Clone, Copy)]
-pub struct Step {
+/// What an accepted start gives: the lookup, how many octets of the buffer its query has, and where it is to be sent.
+#[derive(Clone, Copy, PartialEq, Eq, Debug)]
+pub struct FirstQuery {
     pub lookup: Lookup,
-    pub outcome: Outcome,
+    pub len: usize,
     pub to: Endpoint,
 }
 
+/// What an accepted receive or tick comes to. With a query: how many octets of the buffer were written, and where they are to be sent. With
+/// a response: the offset where its answers begin, and how many there are.
+#[derive(Clone, Copy, PartialEq, Eq, Debug)]
+pub enum Outcome {
+    /// Nothing is due.
+    Quiet,
+    /// The query is to be sent again.
+    Query { len: usize, to: Endpoint },
+    /// One of several hosts that share the name has answered; the lookup goes on.
+    Part { at: usize, answers: u16 },
+    /// The owner of the name has answered; the lookup has ended.
+    Found { at: usize, answers: u16 },
+    /// No more responses are waited for; the lookup has ended with the parts told before.
+    Collected,
+    /// Nobody has answered; the lookup has ended.
+    NoSuchName,
+}
+
 impl Lookup {
-    // What a refused start gives: ended, on an unused interface, all else zero.
+    /// A lookup that has ended, on an unused interface, all else zero: in place of one that was not started.
+    // A value of zeros, and no Option: C gets it where a start is refused (rule A17 of docs/RULES.md).
     pub fn ended() -> Self
         ensures { result ≡ ended_lookup }
     {
-        let s = Setting {
+        let unused = Setting {
             family: 0,
             address: [0; Address::IPV6_OCTETS],
             interval: 0,
         };
         Lookup {
-            settings: [s; Setting::COUNT],
+            settings: [unused; Setting::COUNT],
             interface: 0,
             name: [0; Name::LONGEST],
             len: 0,

@@ -1,13 +1,6 @@
 -- What the reader of a header means.
-use Prim.Native.Nat.{ℕ, ◌+◌, ◌*◌, ◌/◌, ◌%◌, ◌<◌, ◌≤◌}
-use mathlib.Core.Path.{◌≡◌, refl, sym, ap, ◌∙◌, subst}
-use mathlib.Core.List.{List}
-use mathlib.Core.Bool.{Bool, true, false, cond}
-use mathlib.Core.Logic.{◌↔◌}
-use native.Mathlib.Omega.{arith}
-use lib.Dec.{ltb, eqb}
-use lib.ListN.{length, get_or}
-use borrow.Author.Tests.{lt-ltb, le-ltb, ltb-true, ltb-false, eqb-true, eqb-false}
+use Rattle.std.proofs.Common.{None, Some, ℕ, ◌+◌, ◌*◌, ◌/◌, ◌%◌, ◌<◌, ◌≤◌, ◌≡◌, refl, sym, ap, ◌∙◌, subst, List, Bool, true, false, cond, ◌↔◌, arith, ltb, eqb, length, get_or, lt-ltb, le-ltb, ltb-true, ltb-false, eqb-true}
+use Rattle.std.proofs.lemmas.Bool.{eqb-false}
 use Rattle.octets.specs.Octets.{Octets}
 use Rattle.octets.specs.Words.{big_at}
 use Rattle.octets.proofs.Tests.{split}
@@ -15,19 +8,18 @@ use Rattle.octets.proofs.Octets.{octet_at_lem}
 use Rattle.octets.proofs.Words.{big_word}
 use Rattle.message.specs.Bounds.{header_octets}
 use Rattle.message.specs.declared.Header.{Header}
-use Rattle.message.specs.declared.HeaderRead.TheVariants.{Good, Short}
 use Rattle.message.specs.Header.{bits, is_set, header_of, header_at, bit, Layout, IsHeader}
 
 -- fewer than 12 octets, and 12 or more
-pub header_short : (s : List ℕ) → length s < header_octets → header_at s ≡ Short
+pub header_short : (s : List ℕ) → length s < header_octets → header_at s ≡ None
 unfolding header_at
 header_short s h = rw (lt-ltb _ _ h)
 
-pub header_good : (s : List ℕ) → header_octets ≤ length s → header_at s ≡ Good (header_of s)
+pub header_good : (s : List ℕ) → header_octets ≤ length s → header_at s ≡ Some (header_of s)
 unfolding header_at
 header_good s h = rw (le-ltb _ _ h)
 
-pub header_is : (s : List ℕ) (x : Header) → header_at s ≡ Good x → header_of s ≡ x
+pub header_is : (s : List ℕ) (x : Header) → header_at s ≡ Some x → header_of s ≡ x
 header_is s x e =
     split
     (ltb (length s) header_octets)
@@ -35,7 +27,7 @@ header_is s x e =
     (λ t. cc (header_good s (ltb-false _ _ t)))
 
 -- The header is short exactly if there are fewer than 12 octets.
-pub short_header : (s : List ℕ) → (header_at s ≡ Short) ↔ (length s < 12)
+pub short_header : (s : List ℕ) → (header_at s ≡ None) ↔ (length s < 12)
 short_header s = (
   λ e. split
       (ltb (length s) header_octets)
@@ -56,7 +48,7 @@ bit_set : (word place : ℕ) → bit (is_set word place) ≡ bits word place 2
 bit_set word place = bit_back (bits word place 2) (omega arith)
 
 -- T is the lowest bit of the third octet.
-pub tentative_bit : (b : List ℕ) (x : Header) → Octets b → header_at b ≡ Good x → get_or b 2 0 % 2 ≡ cond x.tentative 1 0
+pub tentative_bit : (b : List ℕ) (x : Header) → Octets b → header_at b ≡ Some x → get_or b 2 0 % 2 ≡ cond x.tentative 1 0
 unfolding header_of
 tentative_bit b x o e =
     let h = octet_at_lem b 3 o in
@@ -194,11 +186,11 @@ one_header s g h x y =
     (x.answers ∙ sym y.answers) (x.authorities ∙ sym y.authorities) (x.additionals ∙ sym y.additionals)
 
 -- The reader finds a header exactly if one stands at the start: where each word stands, and each flag in its word.
-pub reads_a_header : (s : List ℕ) (h : Header) → Octets s → (header_at s ≡ Good h) ↔ IsHeader s h
+pub reads_a_header : (s : List ℕ) (h : Header) → Octets s → (header_at s ≡ Some h) ↔ IsHeader s h
 reads_a_header s h o = (
   λ e. split
       (ltb (length s) header_octets)
       (λ t. let z : ◌≡◌ {A = ℕ} 0 1 = cc (header_short s (ltb-true _ _ t)) in absurd (omega arith))
       (λ t. subst (λ (x : Header). IsHeader s x) (header_is s h e) (stands s o (ltb-false _ _ t))),
-  λ x. header_good s x.whole ∙ ap Good (one_header s (header_of s) h (stands s o x.whole) x),
+  λ x. header_good s x.whole ∙ ap Some (one_header s (header_of s) h (stands s o x.whole) x),
 )

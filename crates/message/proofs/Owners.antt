@@ -1,16 +1,10 @@
 -- How deep the owner names of a message's answers can be: together at most ANCOUNT times 127 labels, and ANCOUNT times 16 pointers.
-use Prim.Native.Nat.{ℕ, zero, suc}
-use mathlib.Core.Path.{◌≡◌, refl}
-use mathlib.Core.List.{List, [], ◌∷◌}
-use native.Mathlib.Omega.{arith}
-use lib.ListN.{length}
+use Rattle.std.proofs.Common.{None, Option, Some, ℕ, zero, suc, ◌≡◌, refl, List, [], ◌∷◌, arith, length}
 use Rattle.octets.specs.Octets.{Octets}
 use Rattle.names.specs.Depth.{Depth}
 use Rattle.names.proofs.Depth.{reading_depth}
 use Rattle.message.specs.Header.{header_of}
 use Rattle.message.specs.declared.ResourceRecord.{ResourceRecord}
-use Rattle.message.specs.declared.RecordRead.{RecordRead}
-use Rattle.message.specs.declared.RecordRead.TheVariants.{Good, Bad}
 use Rattle.message.specs.Records.{record_at, records_from, AreRecords}
 use Rattle.message.specs.Owners.{answers_from, NoDeeper}
 use Rattle.message.proofs.Records.{reads_a_record}
@@ -36,11 +30,11 @@ module _ (s : List ℕ) (o : Octets s) where
   walk_depth zero at = none_deep 0
   walk_depth (suc k) at = go (record_at s at) refl (λ r. walk_depth k r.next)
     where
-      go : (m : RecordRead) → record_at s at ≡ m → ((r : ResourceRecord) → NoDeeper k (records_from k s r.next))
+      go : (m : Option ResourceRecord) → record_at s at ≡ m → ((r : ResourceRecord) → NoDeeper k (records_from k s r.next))
           → NoDeeper (suc k) (records_from (suc k) s at)
-      go (Good r) e i =
+      go (Some r) e i =
           rw e (one_deeper k r (records_from k s r.next) (reading_depth s at r.owner ((reads_a_record s at r o).0 e).owner) (i r))
-      go Bad e i = rw e (none_deep (suc k))
+      go None e i = rw e (none_deep (suc k))
 
   -- and so are the answers of a message: ANCOUNT times 127 labels, and ANCOUNT times 16 pointers, at most.
   pub answers_depth : (at : ℕ) → NoDeeper (header_of s).answers (answers_from s at)

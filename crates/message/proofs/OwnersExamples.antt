@@ -1,11 +1,8 @@
 -- Labels and pointers of the owner names of two messages' answers, by computation.
-use Prim.Native.Nat.{ℕ, ◌*◌}
-use mathlib.Core.Path.{◌≡◌, refl}
-use mathlib.Core.List.{List, [], ◌∷◌, ◌++◌}
+use Rattle.std.proofs.Common.{Err, ℕ, ◌*◌, ◌≡◌, refl, List, [], ◌∷◌, ◌++◌}
 use Rattle.names.specs.Bounds.{most_labels}
 use Rattle.names.specs.RecordNameWalk.{turn_at, record_name_from}
 use Rattle.names.proofs.DepthExamples.{labelled, chained}
-use Rattle.message.specs.declared.Walked.TheVariants.{Stopped}
 use Rattle.message.specs.Header.{header_of}
 use Rattle.message.specs.Records.{record_at, walk_from, records_from}
 use Rattle.message.specs.Owners.{answers_from, owner_labels, owner_pointers}
@@ -36,7 +33,7 @@ pub record Sums : Type 0 where
   pub wide_labels : owner_labels (answers_from wide 271) ≡ 2 * most_labels
   pub wide_pointers : owner_pointers (answers_from wide 271) ≡ 2
   -- the two records before the bad one: 1 pointer and 16
-  pub deep_stops : walk_from 3 deep 19 ≡ Stopped 73
+  pub deep_stops : walk_from 3 deep 19 ≡ Err 73
   pub deep_labels : owner_labels (answers_from deep 19) ≡ 2
   pub deep_pointers : owner_pointers (answers_from deep 19) ≡ 17
 

@@ -1,9 +1,5 @@
 -- Queries: what is written is read back.
-use Prim.Native.Nat.{ℕ, ◌+◌, ◌*◌, ◌/◌, ◌%◌, ◌<◌, ◌≤◌}
-use mathlib.Core.Path.{◌≡◌, refl, sym, ◌∙◌}
-use mathlib.Core.List.{List, [], ◌∷◌, ◌++◌}
-use native.Mathlib.Omega.{arith}
-use lib.ListN.{length, drop, length-append}
+use Rattle.std.proofs.Common.{Some, ℕ, ◌+◌, ◌*◌, ◌/◌, ◌%◌, ◌<◌, ◌≤◌, ◌≡◌, refl, sym, ◌∙◌, List, [], ◌∷◌, ◌++◌, arith, length, drop, length-append}
 use Rattle.octets.specs.Octets.{Octets, part_of, splice, put}
 use Rattle.octets.specs.Words.{big_octets}
 use Rattle.octets.proofs.Octets.{octets_append}
@@ -11,14 +7,12 @@ use Rattle.octets.proofs.Words.{big_octets_lem}
 use Rattle.octets.proofs.Splice.{put_in, put_out, put_after}
 use Rattle.names.specs.Names.{Labels, encode, IsName}
 use Rattle.message.specs.Bounds.{header_octets}
-use Rattle.message.specs.declared.HeaderRead.TheVariants.{Good}
 use Rattle.message.specs.declared.Question.{Question}
-use Rattle.message.specs.declared.QuestionRead.TheVariants.{Good as GoodQuestion}
 use Rattle.message.specs.Header.{bits, is_set, header_of, header_at}
 use Rattle.message.specs.Question.{question_at, IsQuestion, question_octets}
 use Rattle.message.specs.Query.{count_octets, query_octets, query_with}
 use Rattle.message.proofs.Headers.{header_good}
-use Rattle.message.proofs.Questions.{question_length, question_back, question_moves}
+use Rattle.message.proofs.Questions.{question_back, question_moves}
 
 -- A query has 12 octets more than its question.
 pub query_length : (id flags : ℕ) (question : List ℕ) → length (query_octets id flags question) ≡ header_octets + length question
@@ -46,7 +40,7 @@ query_question id flags question = refl
 -- The header of a query is read back with the ID and the flags that were given, one question and no record, whatever stands after it.
 pub query_header : (id flags : ℕ) (question r : List ℕ)
     → header_at (query_octets id flags question ++ r)
-    ≡ Good
+    ≡ Some
     (record {
       id = id;
       response = is_set flags 0x8000;
@@ -69,14 +63,14 @@ query_header id flags question r =
 -- The question of a query is read back, whatever stands after it: the one that was given by name, type and class,
 pub query_asks : (id flags : ℕ) (n : Labels) (qtype class : ℕ) (r : List ℕ) → IsName n
     → question_at (query_octets id flags (question_octets (encode n) qtype class) ++ r) header_octets
-    ≡ GoodQuestion (record { name = length (encode n); labels = length n; qtype = qtype; class = class; end = header_octets + length (encode n) + 4 })
+    ≡ Some (record { name = length (encode n); labels = length n; qtype = qtype; class = class; end = header_octets + length (encode n) + 4 })
 unfolding query_octets
 query_asks id flags n qtype class r h = question_back (query_octets id flags []) n qtype class r h
 
 -- or the one whose octets were copied from another message.
 pub query_copies : (id flags : ℕ) (s : List ℕ) (at : ℕ) (q : Question) (r : List ℕ) → Octets s → IsQuestion s at q
     → question_at (query_octets id flags (part_of s at q.end) ++ r) header_octets
-    ≡ GoodQuestion (record { name = q.name; labels = q.labels; qtype = q.qtype; class = q.class; end = header_octets + q.name + 4 })
+    ≡ Some (record { name = q.name; labels = q.labels; qtype = q.qtype; class = q.class; end = header_octets + q.name + 4 })
 unfolding query_octets
 query_copies id flags s at q r o f = question_moves s at q o f (query_octets id flags []) r
 
@@ -85,50 +79,31 @@ pub query_plain : (id : ℕ) (question : List ℕ) → query_octets id 0 questio
 unfolding query_octets
 query_plain id question = refl
 
--- ---- the writers
+-- ---- the writer
 
--- the header, written part by part
-pub header_written : (id flags : ℕ) (out a b d : List ℕ) → header_octets ≤ length out → a ≡ put out 0 (big_octets id)
-    → b ≡ put a 2 (big_octets flags) → d ≡ put b 4 (count_octets 0) → d ≡ splice out 0 (query_octets id flags [])
-unfolding query_octets
-header_written id flags out a b d h e f g =
-    let x : a ≡ splice out 0 (big_octets id) = e ∙ put_in out 0 (big_octets id) (omega arith) in
-    let y : b ≡ splice out 0 (big_octets id ++ big_octets flags) =
-    f ∙ put_after out (big_octets id) (big_octets flags) a 0 2 refl x (omega arith) in
-    g ∙ put_after out (big_octets id ++ big_octets flags) (count_octets 0) b 0 4 refl y (omega arith)
-
--- the question's octets after it
-after_header : (id flags : ℕ) (out a question : List ℕ) → header_octets + length question ≤ length out
-    → a ≡ splice out 0 (query_octets id flags []) → put a header_octets question ≡ splice out 0 (query_octets id flags question)
-unfolding query_octets
-after_header id flags out a question h e = put_after out (query_octets id flags []) question a 0 header_octets refl e h
-
-query_put : (id flags : ℕ) (out question : List ℕ) → header_octets + length question ≤ length out
-    → splice out 0 (query_octets id flags question) ≡ put out 0 (query_octets id flags question)
-query_put id flags out question h =
-    sym (put_in out 0 (query_octets id flags question) (omega (arith, query_length id flags question)))
-
--- a query that does not fit, and one that does
+-- a query that does not fit
 pub query_out : (id flags : ℕ) (out question : List ℕ) → length out < header_octets + length question
     → out ≡ put out 0 (query_octets id flags question)
 query_out id flags out question h =
     sym (put_out out 0 (query_octets id flags question) (omega (arith, query_length id flags question)))
 
-pub query_written : (id flags : ℕ) (out a b question : List ℕ) → header_octets + length question ≤ length out
-    → a ≡ splice out 0 (query_octets id flags []) → b ≡ put a header_octets question → b ≡ put out 0 (query_octets id flags question)
-query_written id flags out a b question h e f =
-    f ∙ after_header id flags out a question h e ∙ query_put id flags out question h
-
-pub name_query_written : (id flags : ℕ) (out a b d g name : List ℕ) (qtype class p : ℕ) → p ≡ header_octets + length name → p + 4 ≤ length out
-    → a ≡ splice out 0 (query_octets id flags []) → b ≡ put a header_octets name → d ≡ put b p (big_octets qtype)
-    → g ≡ put d (p + 2) (big_octets class) → g ≡ put out 0 (query_octets id flags (question_octets name qtype class))
+-- and one that does, whose question is written in two runs: five writes, one after another
+pub query_written : (id flags : ℕ) (out xs ys : List ℕ) {a b d e f : List ℕ} → header_octets + length xs + length ys ≤ length out
+    → a ≡ put out 0 (big_octets id)
+    → b ≡ put a 2 (big_octets flags)
+    → d ≡ put b 4 (count_octets 0)
+    → e ≡ put d header_octets xs
+    → f ≡ put e (header_octets + length xs) ys
+    → f ≡ put out 0 (query_octets id flags (xs ++ ys))
 unfolding query_octets
-name_query_written id flags out a b d g name qtype class p l h e f i j =
-    let x : b ≡ splice out 0 (query_octets id flags name) = f ∙ after_header id flags out a name (omega arith) e in
-    let y : d ≡ splice out 0 (query_octets id flags (name ++ big_octets qtype)) =
-    i
-    ∙ put_after out (query_octets id flags name) (big_octets qtype) b 0 p (omega (arith, query_length id flags name)) x (omega arith) in
-    j
-    ∙ put_after out (query_octets id flags (name ++ big_octets qtype)) (big_octets class) d 0 (p + 2)
-    (omega (arith, query_length id flags (name ++ big_octets qtype), length-append name (big_octets qtype))) y (omega arith)
-    ∙ query_put id flags out (question_octets name qtype class) (omega (arith, question_length name qtype class))
+query_written id flags out xs ys {a} {b} {d} {e} {f} h p q r s t =
+    let k = length-append xs ys in
+    let start : List ℕ = query_octets id flags [] in
+    let w1 : a ≡ splice out 0 (big_octets id) = p ∙ put_in out 0 (big_octets id) (omega arith) in
+    let w2 : b ≡ splice out 0 (big_octets id ++ big_octets flags) =
+    q ∙ put_after out (big_octets id) (big_octets flags) a 0 2 refl w1 (omega arith) in
+    let w3 : d ≡ splice out 0 start = r ∙ put_after out (big_octets id ++ big_octets flags) (count_octets 0) b 0 4 refl w2 (omega arith) in
+    let w4 : e ≡ splice out 0 (start ++ xs) = s ∙ put_after out start xs d 0 header_octets refl w3 (omega arith) in
+    t
+    ∙ put_after out (start ++ xs) ys e 0 (header_octets + length xs) (omega (arith, query_length id flags xs)) w4 (omega arith)
+    ∙ sym (put_in out 0 (query_octets id flags (xs ++ ys)) (omega (arith, query_length id flags (xs ++ ys))))

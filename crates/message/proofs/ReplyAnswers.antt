@@ -1,12 +1,6 @@
 -- The answers of a reply, in plain words: what a reader finds behind the question.
-use Prim.Native.Nat.{ℕ, suc, zero, ◌+◌, ◌-◌, ◌<◌, ◌≤◌}
-use mathlib.Core.Path.{◌≡◌, refl, sym, ap, ◌∙◌, subst}
-use mathlib.Core.List.{List, [], ◌∷◌, ◌++◌, map}
-use mathlib.Core.Bool.{Bool, true, false, cond}
-use native.Mathlib.Omega.{arith}
-use lib.ListN.{length, take, drop, length-append, length-drop}
-use lib.Seq.{take_at, drop_at, drop-drop, take-append-le}
-use lib.Dec.{eqb}
+use Rattle.std.proofs.Common.{ℕ, suc, zero, ◌+◌, ◌-◌, ◌<◌, ◌≤◌, ◌≡◌, refl, sym, ap, ◌∙◌, subst, List, [], ◌∷◌, ◌++◌, map, Bool, true, false, cond, arith, length, take, drop, length-append, length-drop, take_at, drop_at, drop-drop, eqb}
+use Rattle.std.proofs.lemmas.List.{take-append-le}
 use Rattle.octets.specs.Octets.{Octets, part_of}
 use Rattle.octets.specs.Words.{big_at, big_octets}
 use Rattle.octets.proofs.Tests.{split}

@@ -1,14 +1,6 @@
 -- What a reply is, in plain words: what is asked, its length, what stands in it, and its header as a reader finds it.
-use Prim.Native.Nat.{ℕ, ◌+◌, ◌≤◌}
-use mathlib.Core.Path.{◌≡◌, refl, sym, ap, ◌∙◌}
-use mathlib.Core.List.{List, ◌++◌}
-use mathlib.Core.Bool.{Bool, true, false}
+use Rattle.std.proofs.Common.{Some, ℕ, ◌+◌, ◌≤◌, ◌≡◌, refl, sym, ap, ◌∙◌, List, ◌++◌, Bool, true, false, ◌↔◌, ◌⊎◌, arith, length, take, drop, take_at, drop_at, drop-drop, le-ltb}
 use mathlib.Core.Logic.Iff
-use mathlib.Core.Logic.{◌↔◌, ◌⊎◌}
-use native.Mathlib.Omega.{arith}
-use lib.ListN.{length, take, drop}
-use lib.Seq.{take_at, drop_at, drop-drop}
-use borrow.Author.Tests.{le-ltb}
 use Rattle.octets.specs.Words.{big_at}
 use Rattle.octets.proofs.Tests.{both, either, either_way, same_number, upto_number}
 use Rattle.octets.proofs.Splice.{front}
@@ -16,7 +8,6 @@ use Rattle.names.specs.Names.{Stand}
 use Rattle.name_table.specs.Entries.{Answer}
 use Rattle.message.specs.Bounds.{header_octets}
 use Rattle.message.specs.declared.Header.{Header}
-use Rattle.message.specs.declared.HeaderRead.TheVariants.{Good}
 use Rattle.message.specs.declared.ReplyHead.{ReplyHead}
 use Rattle.message.specs.Header.{bits, is_set, header_of, header_at}
 use Rattle.message.specs.Reply.{reply_flags, answers_octets, is_asked, Taken, taken_of, reply_octets, reply_header, reply_to, has_room, reply_written}
@@ -111,7 +102,7 @@ flags_back id false false true n = refl
 flags_back id false false false n = refl
 
 header_back : (id : ℕ) (c t : Bool) (question : List ℕ) (r : Taken) (rest : List ℕ)
-    → header_at (reply_octets id c t question r ++ rest) ≡ Good (reply_header id c r.cut t (length r.answers))
+    → header_at (reply_octets id c t question r ++ rest) ≡ Some (reply_header id c r.cut t (length r.answers))
 unfolding header_at header_of reply_octets
 header_back id c t question r rest =
     let n : ℕ = length r.answers in
@@ -120,15 +111,15 @@ header_back id c t question r rest =
     let p : big_at s 0 ≡ id = omega arith in
     let q : big_at s 6 ≡ n = omega arith in
     rw (le-ltb _ _ l)
-    (ap (λ (i : ℕ). Good (found i c r.cut t (big_at s 6))) p
-    ∙ ap (λ (k : ℕ). Good (found id c r.cut t k)) q
-    ∙ ap (λ (h : Header). Good h) (flags_back id c r.cut t n))
+    (ap (λ (i : ℕ). Some (found i c r.cut t (big_at s 6))) p
+    ∙ ap (λ (k : ℕ). Some (found id c r.cut t k)) q
+    ∙ ap (λ (h : Header). Some h) (flags_back id c r.cut t n))
 
 -- Whatever follows a reply, a reader finds the query's ID, QR set, C and T as they were given, TC set where an answer was left out, one
 -- question, and as many answers as were taken.
 pub reads_header : (limit : ℕ) (head : ReplyHead) (question : List ℕ) (qtype : ℕ) (answers : List Answer) (rest : List ℕ)
     → header_at (reply_to limit head question qtype answers ++ rest)
-    ≡ Good
+    ≡ Some
     (reply_header
     head.id
     head.conflict

@@ -1,11 +1,9 @@
 -- The header of a message: 12 octets, big-endian words: ID, flags, QDCOUNT, ANCOUNT, NSCOUNT, ARCOUNT. Flags from the top: QR 1 bit,
 -- opcode 4, C 1, TC 1, T 1, reserved 4, RCODE 4.
-use Rattle.std.specs.Prelude.{ℕ, ◌+◌, ◌*◌, ◌/◌, ◌%◌, ◌<◌, ◌≤◌, ◌≡◌, List, Bool, cond, length, get_or, ltb, eqb}
+use Rattle.std.specs.Prelude.{ℕ, ◌+◌, ◌*◌, ◌/◌, ◌%◌, ◌<◌, ◌≤◌, ◌≡◌, List, Bool, cond, length, get_or, ltb, eqb, None, Option, Some}
 use Rattle.octets.specs.Words.{big_at}
 use Rattle.message.specs.Bounds.{header_octets}
 use Rattle.message.specs.declared.Header.{Header}
-use Rattle.message.specs.declared.HeaderRead.{HeaderRead}
-use Rattle.message.specs.declared.HeaderRead.TheVariants.{Good, Short}
 
 -- the bits of a word from the value of the lowest one on, as many as `size` has values
 abbrev pub bits : ℕ → ℕ → ℕ → ℕ
@@ -31,8 +29,8 @@ header_of s =
       additionals = big_at s 10;
     }
 
-unfoldable pub header_at : List ℕ → HeaderRead
-header_at s = cond (ltb (length s) header_octets) Short (Good (header_of s))
+unfoldable pub header_at : List ℕ → Option Header
+header_at s = cond (ltb (length s) header_octets) None (Some (header_of s))
 
 -- a flag as a bit
 abbrev pub bit : Bool → ℕ

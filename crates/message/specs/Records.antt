@@ -1,18 +1,12 @@
 -- Resource records: owner name, type, class, TTL, data length, data; and the walk over some of them, one after another.
-use Rattle.std.specs.Prelude.{ℕ, zero, suc, ◌+◌, ◌*◌, ◌<◌, ◌≤◌, ◌≡◌, List, [], ◌∷◌, cond, length}
+use Rattle.std.specs.Prelude.{ℕ, zero, suc, ◌+◌, ◌*◌, ◌<◌, ◌≤◌, ◌≡◌, List, [], ◌∷◌, cond, length, None, Option, Some, Result, Ok, Err}
 use Rattle.octets.specs.Octets.{runs_past}
 use Rattle.octets.specs.Words.{big_at}
 use Rattle.names.specs.declared.RecordName.{RecordName}
-use Rattle.names.specs.declared.RecordNameRead.{RecordNameRead}
-use Rattle.names.specs.declared.RecordNameRead.TheVariants.{Good as GoodName, Bad as BadName}
 use Rattle.names.specs.Readings.{ReadingAt}
 use Rattle.names.specs.RecordNameWalk.{record_name_at}
 use Rattle.message.specs.Bounds.{fixed_octets}
 use Rattle.message.specs.declared.ResourceRecord.{ResourceRecord}
-use Rattle.message.specs.declared.RecordRead.{RecordRead}
-use Rattle.message.specs.declared.RecordRead.TheVariants.{Good, Bad}
-use Rattle.message.specs.declared.Walked.{Walked}
-use Rattle.message.specs.declared.Walked.TheVariants.{End, Stopped}
 
 -- the record whose owner name ends at p: type, class, 32-bit TTL and data length stand there, then the data
 abbrev pub record_of : List ℕ → RecordName → ℕ → ResourceRecord
@@ -27,29 +21,29 @@ record_of s owner p =
       next = p + fixed_octets + big_at s (p + 8);
     }
 
-abbrev pub after_owner : List ℕ → RecordNameRead → RecordRead
-after_owner s (GoodName n) =
-    cond (runs_past (length s) n.next fixed_octets) Bad
-    (cond (runs_past (length s) (n.next + fixed_octets) (big_at s (n.next + 8))) Bad
-    (Good (record_of s n n.next)))
-after_owner s BadName = Bad
+abbrev pub after_owner : List ℕ → Option RecordName → Option ResourceRecord
+after_owner s (Some n) =
+    cond (runs_past (length s) n.next fixed_octets) None
+    (cond (runs_past (length s) (n.next + fixed_octets) (big_at s (n.next + 8))) None
+    (Some (record_of s n n.next)))
+after_owner s None = None
 
 -- the record at an offset; bad if its owner name is, or the ten fixed octets or the data run past the end
-unfoldable pub record_at : List ℕ → ℕ → RecordRead
+unfoldable pub record_at : List ℕ → ℕ → Option ResourceRecord
 record_at s at = after_owner s (record_name_at s at)
 
-abbrev pub on_record : RecordRead → (ResourceRecord → Walked) → ℕ → Walked
-on_record (Good r) rest at = rest r
-on_record Bad rest at = Stopped at
+abbrev pub on_record : Option ResourceRecord → (ResourceRecord → Result ℕ ℕ) → ℕ → Result ℕ ℕ
+on_record (Some r) rest at = rest r
+on_record None rest at = Err at
 
 -- the walk over so many records from an offset on: the offset after the last, or that of the first bad one
-unfoldable pub walk_from : ℕ → List ℕ → ℕ → Walked
-walk_from zero s at = End at
+unfoldable pub walk_from : ℕ → List ℕ → ℕ → Result ℕ ℕ
+walk_from zero s at = Ok at
 walk_from (suc k) s at = on_record (record_at s at) (λ r. walk_from k s r.next) at
 
-abbrev pub on_passed : RecordRead → (ResourceRecord → List ResourceRecord) → List ResourceRecord
-on_passed (Good r) rest = r ∷ rest r
-on_passed Bad rest = []
+abbrev pub on_passed : Option ResourceRecord → (ResourceRecord → List ResourceRecord) → List ResourceRecord
+on_passed (Some r) rest = r ∷ rest r
+on_passed None rest = []
 
 -- the records that it passes: all of them, or those before the first bad one
 unfoldable pub records_from : ℕ → List ℕ → ℕ → List ResourceRecord

@@ -1,18 +1,19 @@
 // Messages: header, question and resource records, read; queries, written. Replies are written in replies.rt.
 #![tactic(auto)]
 
-ghost use Rattle.std.specs.Prelude.{◌≡◌, [], ◌+◌, ◌<◌, ◌≤◌, length};
-ghost use Rattle.octets.specs.Octets.{put, splice};
-ghost use Rattle.message.specs.Bounds.{header_octets};
-ghost use Rattle.message.specs.Header.{is_set, header_of, header_at};
+ghost use Rattle.std.specs.Prelude.{◌≡◌, ◌≤◌, ◌++◌, length};
+ghost use Rattle.octets.specs.Octets.{put};
+ghost use Rattle.message.specs.Header.{header_at};
 ghost use Rattle.message.specs.Question.{question_at, question_octets};
 ghost use Rattle.message.specs.Records.{record_at, walk_from};
 ghost use Rattle.message.specs.Query.{query_octets};
 
 pub mod replies;
 
-// The header of a message. RFC 4795's C is the conflict flag, T the tentative flag.
-#[derive(Clone, Copy)]
+/// The header of a message. RFC 4795's C is the conflict flag, T the tentative flag.
+// Opcode and RCODE are numbers: any of 16 may come, and `header_of` of specs/Header, which may
+// not change, gives them so.
+#[derive(Clone, Copy, PartialEq, Eq, Debug)]
 pub struct Header {
     pub id: u16,
     pub response: bool,
@@ -28,54 +29,37 @@ pub struct Header {
 }
 
 impl Header {
+    /// Octets of a header.
     pub const OCTETS: usize = 12;
 }
 
-#[derive(Clone, Copy)]
-pub enum HeaderRead {
-    Good(Header),
-    Short,
-}
-
-fn is_set(word: u16, bit: u16) -> bool
-    requires { 0 < bit }
-    ensures { result ≡ is_set word bit }
-{
-    if word / bit % 2 == 1 { true } else { false }
-}
-
-fn header_of(s: &[u8]) -> Header
-    ensures { result ≡ header_of s.now }
-{
-    let flags = octets::big(s, 2);
-    Header {
-        id: octets::big(s, 0),
-        response: is_set(flags, 0x8000),
-        opcode: (flags / 0x800 % 16) as u8,
-        conflict: is_set(flags, 0x400),
-        truncated: is_set(flags, 0x200),
-        tentative: is_set(flags, 0x100),
-        rcode: (flags % 16) as u8,
-        questions: octets::big(s, 4),
-        answers: octets::big(s, 6),
-        authorities: octets::big(s, 8),
-        additionals: octets::big(s, 10),
-    }
-}
-
-// Reads the header of a message.
-pub fn read_header(s: &[u8]) -> HeaderRead
+/// Reads the header of a message; none where there are fewer octets than a header has.
+#[tactic(auto, unfolding(crate::specs::Header::header_at, crate::specs::Header::header_of))]
+pub fn read_header(s: &[u8]) -> Option<Header>
     ensures { result ≡ header_at s.now }
 {
-    if s.len() < Header::OCTETS {
-        return HeaderRead::Short;
-    }
-    let header = header_of(s);
-    HeaderRead::Good(header)
+    let [i0, i1, f0, f1, q0, q1, a0, a1, n0, n1, r0, r1, ..] = s else {
+        return None;
+    };
+    let flags = u16::from_be_bytes([*f0, *f1]);
+    Some(Header {
+        id: u16::from_be_bytes([*i0, *i1]),
+        response: flags >> 15 & 1 == 1,
+        opcode: (flags >> 11 & 0xf) as u8,
+        conflict: flags >> 10 & 1 == 1,
+        truncated: flags >> 9 & 1 == 1,
+        tentative: flags >> 8 & 1 == 1,
+        rcode: (flags & 0xf) as u8,
+        questions: u16::from_be_bytes([*q0, *q1]),
+        answers: u16::from_be_bytes([*a0, *a1]),
+        authorities: u16::from_be_bytes([*n0, *n1]),
+        additionals: u16::from_be_bytes([*r0, *r1]),
+    })
 }
 
-// A question: the octets of its name and its labels, its type and class, and the offset after it.
-#[derive(Clone, Copy)]
+/// A question: the octets of its name and its labels, its type and class, and the offset after it.
+// An offset, and no slice: `question_at` of specs/Question, which may not change, gives it.
+#[derive(Clone, Copy, PartialEq, Eq, Debug)]
 pub struct Question {
     pub name: usize,
     pub labels: usize,
@@ -84,36 +68,29 @@ pub struct Question {
     pub end: usize,
 }
 
-#[derive(Clone, Copy)]
-pub enum QuestionRead {
-    Good(Question),
-    Bad,
-}
-
-// Reads the question at an offset.
-pub fn read_question(s: &[u8], at: usize) -> QuestionRead
+/// Reads the question at an offset; none where its name is bad, or it runs past the end.
+#[tactic(auto, using(names::proofs::NameWalk::name_fits), unfolding(crate::specs::Question::question_at))]
+pub fn read_question(s: &[u8], at: usize) -> Option<Question>
     ensures { result ≡ question_at s.now at }
 {
-    let read = names::read_name(s, at);
-    let names::NameRead::Good(n) = read else {
-        return QuestionRead::Bad;
-    };
-    let p = at + n.len;
+    let name = names::read_name(s, at)?;
+    let p = at + name.len;
     if octets::runs_past(s.len(), p, 4) {
-        return QuestionRead::Bad;
+        return None;
     }
-    QuestionRead::Good(Question {
-        name: n.len,
-        labels: n.labels,
+    Some(Question {
+        name: name.len,
+        labels: name.labels,
         qtype: octets::big(s, p),
         class: octets::big(s, p + 2),
         end: p + 4,
     })
 }
 
-// A resource record: its owner name, type, class, TTL in seconds, octets of data, where the data stands, and where the next
-// record begins.
-#[derive(Clone, Copy)]
+/// A resource record: its owner name, type, class, TTL in seconds, octets of data, where the data stands, and where the next
+/// record begins.
+// Offsets, and no slices: `record_at` of specs/Records, which may not change, gives them.
+#[derive(Clone, Copy, PartialEq, Eq, Debug)]
 pub struct ResourceRecord {
     pub owner: names::RecordName,
     pub rtype: u16,
@@ -125,105 +102,94 @@ pub struct ResourceRecord {
 }
 
 impl ResourceRecord {
-    // Octets between the owner and the data.
+    /// Octets between the owner and the data.
     pub const FIXED: usize = 10;
 
-    // Octets of an answer that we write before its data: the owner's pointer and the fixed octets.
+    /// Octets of an answer that we write before its data: the owner's pointer and the fixed octets.
     pub const ANSWER: usize = 12;
 
-    // The class and the TTL of every record that we write, and the type that asks for all.
+    /// The class of every record that we write.
     pub const IN: u16 = 1;
 
+    /// The TTL of every record that we write, in seconds.
     pub const TTL: u16 = 30;
 
+    /// The type that asks for all.
     pub const ANY: u16 = 255;
 
-    // From here on a TTL has its top bit set.
+    /// From here on a TTL has its top bit set.
     pub const TOP_BIT: u32 = 2147483648;
 }
 
-#[derive(Clone, Copy)]
-pub enum RecordRead {
-    Good(ResourceRecord),
-    Bad,
-}
-
-// Reads the resource record at an offset.
-pub fn read_record(s: &[u8], at: usize) -> RecordRead
+/// Reads the resource record at an offset; none where its owner name is bad, or its fixed octets or its data run past the end.
+#[tactic(auto, unfolding(crate::specs::Records::record_at))]
+pub fn read_record(s: &[u8], at: usize) -> Option<ResourceRecord>
     ensures { result ≡ record_at s.now at }
 {
-    let read = names::read_record_name(s, at);
-    let names::RecordNameRead::Good(owner) = read else {
-        return RecordRead::Bad;
-    };
+    let owner = names::read_record_name(s, at)?;
     let p = owner.next;
     if octets::runs_past(s.len(), p, ResourceRecord::FIXED) {
-        return RecordRead::Bad;
+        return None;
     }
     let len = octets::big(s, p + 8) as usize;
-    if octets::runs_past(s.len(), p + ResourceRecord::FIXED, len) {
-        return RecordRead::Bad;
+    let start = p + ResourceRecord::FIXED;
+    if octets::runs_past(s.len(), start, len) {
+        return None;
     }
-    RecordRead::Good(ResourceRecord {
-        owner: owner,
+    Some(ResourceRecord {
+        owner,
         rtype: octets::big(s, p),
         class: octets::big(s, p + 2),
-        ttl: (octets::big(s, p + 4) as u32) * 65536 + (octets::big(s, p + 6) as u32),
-        len: len,
-        start: p + ResourceRecord::FIXED,
-        next: p + ResourceRecord::FIXED + len,
+        ttl: (octets::big(s, p + 4) as u32) << 16 | octets::big(s, p + 6) as u32,
+        len,
+        start,
+        next: start + len,
     })
 }
 
-// Where a walk over records ends: after the last, or at the first bad one.
-#[derive(Clone, Copy)]
-pub enum Walked {
-    End(usize),
-    Stopped(usize),
-}
-
-// Walks over so many resource records from an offset on.
-pub fn walk(s: &[u8], at: usize, count: u16) -> Walked
+/// Walks over so many resource records from an offset on: the offset after the last, or that of the first bad one as the error.
+pub fn walk(s: &[u8], at: usize, count: u16) -> Result<usize, usize>
     ensures { result ≡ walk_from count s.now at }
 {
     let mut p = at;
-    let mut left = count;
-    while 0 < left {
-        let read = read_record(s, p);
-        let RecordRead::Good(r) = read else {
-            return Walked::Stopped(p);
+    for _ in 0..count {
+        let Some(record) = read_record(s, p) else {
+            return Err(p);
         };
-        p = r.next;
-        left = left - 1;
+        p = record.next;
     }
-    Walked::End(p)
+    Ok(p)
 }
 
-// Writes the header of a query with an ID and flags at the start of a buffer that has room.
-fn put_query_header(out: &mut [u8], id: u16, flags: u16)
-    requires { header_octets ≤ length out.old }
-    ensures { out.new ≡ splice out.old 0 (query_octets id flags []) }
+// Writes a query with an ID, flags, and the octets of its question, which stand in two runs, if it fits; gives its length.
+// An ID and flags beside the buffer, as the public two below take them, which may not change.
+fn put_query(out: &mut [u8], id: u16, flags: u16, first: &[u8], last: &[u8]) -> usize
+    requires short { length last.now ≤ 4 }
+    ensures value { result ≡ length (query_octets id flags (first.now ++ last.now)) }
+    ensures out_after { out.new ≡ put out.old 0 (query_octets id flags (first.now ++ last.now)) }
 {
+    let p = Header::OCTETS + first.len();
+    let len = p + last.len();
+    if octets::runs_past(out.len(), 0, len) {
+        return len;
+    }
     octets::put_big(out, 0, id);
     octets::put_big(out, 2, flags);
     octets::put_octets(out, 4, b"\x00\x01\x00\x00\x00\x00\x00\x00");
+    octets::put_octets(out, Header::OCTETS, first);
+    octets::put_octets(out, p, last);
+    len
 }
 
-// Writes a query with an ID, flags, and the octets of its question, if it fits; gives its length.
+/// Writes a query with an ID, flags, and the octets of its question, if it fits; gives its length.
 pub fn write_query(out: &mut [u8], id: u16, flags: u16, question: &[u8]) -> usize
     ensures value { result ≡ length (query_octets id flags question.now) }
     ensures out_after { out.new ≡ put out.old 0 (query_octets id flags question.now) }
 {
-    let len = Header::OCTETS + question.len();
-    if octets::runs_past(out.len(), 0, len) {
-        return len;
-    }
-    put_query_header(out, id, flags);
-    octets::put_octets(out, Header::OCTETS, question);
-    len
+    put_query(out, id, flags, question, b"")
 }
 
-// Writes a query with an ID, flags, and the octets of a name, a type and a class, if it fits; gives its length.
+/// Writes a query with an ID, flags, and the octets of a name, a type and a class, if it fits; gives its length.
 pub fn write_name_query(
     out: &mut [u8],
     id: u16,
@@ -233,30 +199,36 @@ pub fn write_name_query(
     class: u16,
 ) -> usize
     ensures value { result ≡ length (query_octets id flags (question_octets name.now qtype class)) }
-    ensures out_after { out.new ≡ put out.old 0 (query_octets id flags (question_octets name.now qtype class)) }
+    ensures out_after { out.new
+        ≡ put out.old 0 (query_octets id flags (question_octets name.now qtype class)) }
 {
-    let p = Header::OCTETS + name.len();
-    let len = p + 4;
-    if octets::runs_past(out.len(), 0, len) {
-        return len;
-    }
-    put_query_header(out, id, flags);
-    octets::put_octets(out, Header::OCTETS, name);
-    octets::put_big(out, p, qtype);
-    octets::put_big(out, p + 2, class);
-    len
+    let [t0, t1] = qtype.to_be_bytes();
+    let [c0, c1] = class.to_be_bytes();
+    put_query(out, id, flags, name, &[t0, t1, c0, c1])
 }
 
-// The head of a reply: the query's ID, and whether C and T are set.
-#[derive(Clone, Copy)]
+/// The head of a reply: the query's ID, and whether C and T are set.
+#[derive(Clone, Copy, PartialEq, Eq, Debug)]
 pub struct ReplyHead {
     pub id: u16,
     pub conflict: bool,
     pub tentative: bool,
 }
 
-// Where the answers end, how many there are, and whether one was left out.
-#[derive(Clone, Copy)]
+/// What a reply answers: a question of a type, on an interface, about a name of the table; the offset there at which the name's
+/// records begin.
+// An offset into the table: `answers_in` of specs/Reply, which may not change, takes it.
+#[derive(Clone, Copy, PartialEq, Eq, Debug)]
+pub struct Asked<'a> {
+    pub qtype: u16,
+    pub interface: usize,
+    pub table: &'a [u8],
+    pub records: usize,
+}
+
+/// Where the answers end, how many there are, and whether one was left out.
+// How far the buffer is filled: `taken_from` of specs/Reply, which may not change, says so.
+#[derive(Clone, Copy, PartialEq, Eq, Debug)]
 pub struct Answers {
     pub end: usize,
     pub count: u16,

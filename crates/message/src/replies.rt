@@ -5,62 +5,30 @@ ghost use Rattle.octets.specs.Tests.{◌and◌};
 ghost use Rattle.message.specs.Bounds.{fixed_octets, owner_octets};
 ghost use Rattle.message.specs.Reply.{reply_flags, is_asked, answer_octets, taken_from, answers_in, reply_written, Filled};
 
-use crate::{Answers, Header, ReplyHead, ResourceRecord};
+use crate::{Answers, Asked, Header, ReplyHead, ResourceRecord};
 use name_table::{RecordRead, Table, resources};
 
 // The flags of a reply: QR is set, then C, TC and T as given.
 fn reply_flags(conflict: bool, truncated: bool, tentative: bool) -> [u8; 2]
     ensures { result ≡ reply_flags conflict truncated tentative }
 {
-    if conflict {
-        if truncated {
-            if tentative {
-                *b"\x87\x00"
-            } else {
-                *b"\x86\x00"
-            }
-        } else {
-            if tentative {
-                *b"\x85\x00"
-            } else {
-                *b"\x84\x00"
-            }
-        }
-    } else {
-        if truncated {
-            if tentative {
-                *b"\x83\x00"
-            } else {
-                *b"\x82\x00"
-            }
-        } else {
-            if tentative {
-                *b"\x81\x00"
-            } else {
-                *b"\x80\x00"
-            }
-        }
-    }
+    let high = 0x80 | (conflict as u8) << 2 | (truncated as u8) << 1 | tentative as u8;
+    [high, 0]
 }
 
 // Whether a question of a type asks for records of a type.
 fn is_asked(qtype: u16, rtype: u16) -> bool
     ensures { result ≡ is_asked qtype rtype }
 {
-    if rtype == qtype {
-        return true;
-    }
-    if qtype == ResourceRecord::ANY {
-        true
-    } else {
-        false
-    }
+    rtype == qtype || qtype == ResourceRecord::ANY
 }
 
 // Writes an answer at the start of a part that has room: its owner is a pointer to the question's name.
 fn put_answer(part: &mut [u8], rtype: u16, rdata: &[u8])
-    requires { (owner_octets + fixed_octets + length rdata.now ≤ length part.old) × (length rdata.now < 65536) }
-    ensures { part.new ≡ splice part.old 0 (answer_octets (record { rtype = rtype; octets = rdata.now })) }
+    requires room { owner_octets + fixed_octets + length rdata.now ≤ length part.old }
+    requires short { length rdata.now < 65536 }
+    ensures { part.new
+        ≡ splice part.old 0 (answer_octets (record { rtype = rtype; octets = rdata.now })) }
 {
     octets::put_octets(part, 0, b"\xc0\x0c");
     octets::put_big(part, 2, rtype);
@@ -75,88 +43,71 @@ fn put_answer(part: &mut [u8], rtype: u16, rdata: &[u8])
 fn is_taken(here: bool, qtype: u16, rtype: u16) -> bool
     ensures { result ≡ here and is_asked qtype rtype }
 {
-    if here { is_asked(qtype, rtype) } else { false }
+    here && is_asked(qtype, rtype)
 }
 
-fn given(end: usize, count: u16, cut: bool) -> Answers
-    ensures { result ≡ record { end = end; count = count; cut = cut } }
-{
-    Answers {
-        end: end,
-        count: count,
-        cut: cut,
-    }
-}
-
-// Writes the answers of a name whose records begin at an offset of the table, those that are valid on an interface, after the octets
-// used, until the first that would pass the limit.
-fn put_answers(
-    out: &mut [u8],
-    limit: usize,
-    qtype: u16,
-    interface: usize,
-    used: usize,
-    table: &[u8],
-    at: usize,
-) -> Answers
-    requires { (limit ≤ length out.old) × (limit < 65536) × (used ≤ limit) }
-    ensures { Filled result used out.old out.new (taken_from limit qtype used (answers_in interface table.now at)) }
+// Writes the answers to what is asked after the octets used, until the first that would pass the limit.
+// Offsets and no part of the buffer: `taken_from` of specs/Reply, which may not change, counts
+// them.
+fn put_answers(out: &mut [u8], limit: usize, used: usize, asked: Asked) -> Answers
+    requires room { limit ≤ length out.old }
+    requires short { limit < 65536 }
+    requires inside { used ≤ limit }
+    ensures { Filled result used out.old out.new
+        (taken_from limit asked.entry.qtype used
+        (answers_in asked.entry.interface asked.entry.table.now asked.entry.records)) }
 {
     let mut end = used;
-    let mut count: u16 = 0;
-    let mut p = at;
-    let mut here = resources::is_valid(Table::EVERYWHERE, interface);
-    loop {
-        let read = resources::record_at(table, p);
-        match read {
-            RecordRead::Good(r) => {
-                let start = r.start;
-                p = r.end;
-                if is_taken(here, qtype, r.rtype) {
-                    let rdata = octets::part(table, start, p);
+    let mut count = 0;
+    let mut p = asked.records;
+    let mut here = resources::is_valid(Table::EVERYWHERE, asked.interface);
+    // A loop: the offset moves to where each entry ends, so no range is plainer.
+    let cut = loop {
+        match resources::record_at(asked.table, p) {
+            RecordRead::Good(record) => {
+                p = record.end;
+                if is_taken(here, asked.qtype, record.rtype) {
+                    let rdata = octets::part(asked.table, record.start, record.end);
                     let size = ResourceRecord::ANSWER + rdata.len();
                     if octets::runs_past(limit, end, size) {
-                        return given(end, count, true);
+                        break true;
                     }
-                    put_answer(&mut out[end..], r.rtype, rdata);
-                    end = end + size;
-                    count = count + 1;
+                    put_answer(&mut out[end..], record.rtype, rdata);
+                    end += size;
+                    count += 1;
                 }
             }
-            RecordRead::Mask { mask, end: next } => {
-                here = resources::is_valid(mask, interface);
-                p = next;
+            RecordRead::Mask { mask, end } => {
+                here = resources::is_valid(mask, asked.interface);
+                p = end;
             }
-            RecordRead::End => return given(end, count, false),
+            RecordRead::End => break false,
         }
-    }
+    };
+    Answers { end, count, cut }
 }
 
-// Writes a reply: the question's octets as received, then the records of a name that its type asks for and that are valid on the
-// interface, from an offset of the table on, as many as the limit lets in. Gives its length; nothing is written, and the length is 0,
-// where there is no room.
+/// Writes a reply: the question's octets as received, then the records that are asked for, as many as the limit lets in. Gives its
+/// length; nothing is written, and the length is 0, where there is no room.
 pub fn write_reply(
     out: &mut [u8],
     limit: u16,
     head: ReplyHead,
     question: &[u8],
-    qtype: u16,
-    interface: usize,
-    table: &[u8],
-    at: usize,
+    asked: Asked,
 ) -> usize
-    ensures { record { len = result; octets = out.new } ≡ reply_written out.old limit head question.now qtype (answers_in interface table.now at) }
+    ensures { record { len = result; octets = out.new }
+        ≡ reply_written out.old limit head question.now asked.entry.qtype
+        (answers_in asked.entry.interface asked.entry.table.now asked.entry.records) }
 {
     let room = limit as usize;
     let used = Header::OCTETS + question.len();
-    if out.len() < room {
-        return 0;
-    }
-    if room < used {
+    // The length 0 tells that there is no room: so says reply_written in specs/Reply, which this promises.
+    if out.len() < room || room < used {
         return 0;
     }
     octets::put_octets(out, Header::OCTETS, question);
-    let answers = put_answers(out, room, qtype, interface, used, table, at);
+    let answers = put_answers(out, room, used, asked);
     let flags = reply_flags(head.conflict, answers.cut, head.tentative);
     octets::put_big(out, 0, head.id);
     octets::put_octets(out, 2, &flags);

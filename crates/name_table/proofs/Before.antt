@@ -1,14 +1,7 @@
 -- What has no kind 6 is read as it was: a table that was good is good with the same names and the same records of each, on every interface;
 -- one that was bad is bad at the same offset, unless a kind 6 stands there.
-use Prim.Native.Nat.{ℕ, suc, zero, ◌+◌, ◌<◌}
-use mathlib.Core.Path.{◌≡◌, refl, sym, ap, ◌∙◌, subst}
-use mathlib.Core.List.{List, [], ◌∷◌, ◌++◌}
-use mathlib.Core.Logic.{◌⊎◌, inl, inr}
-use native.Mathlib.Omega.{arith}
-use lib.Dec.{ltb, eqb}
-use lib.ListN.{length, get_or, drop, length-append}
-use lib.Seq.{drop_at, drop-drop}
-use borrow.Author.Tests.{eq-eqb, ne_eqb, eqb-true, eqb-false}
+use Rattle.std.proofs.Common.{None, Option, Some, ℕ, suc, zero, ◌+◌, ◌<◌, ◌≡◌, refl, sym, ap, ◌∙◌, subst, List, [], ◌∷◌, ◌++◌, ◌⊎◌, inl, inr, arith, ltb, eqb, length, get_or, drop, length-append, drop_at, drop-drop, eq-eqb, ne_eqb, eqb-true}
+use Rattle.std.proofs.lemmas.Bool.{eqb-false}
 use Rattle.octets.specs.Octets.{Octets}
 use Rattle.octets.proofs.Tests.{split}
 use Rattle.name_table.specs.Bounds.{longest_table, everywhere, entry_head}
@@ -18,11 +11,9 @@ use Rattle.name_table.specs.Entries.{unique, shared, a, aaaa, ptr, Entry, name, 
 use Rattle.name_table.specs.Records.{record_at, Masked, records_from, records_of, valid_on}
 use Rattle.name_table.specs.Before.{kind_before, form_before, step_before, from_before, check_before, record_before, records_from_before, records_before}
 use Rattle.name_table.specs.declared.Form.{Form}
-use Rattle.name_table.specs.declared.Form.TheVariants.{Name, Record, Mask, Bad}
+use Rattle.name_table.specs.declared.Form.TheVariants.{Name, Record, Mask}
 use Rattle.name_table.specs.declared.Record.{Record as TableRecord}
 use Rattle.name_table.specs.declared.RecordRead.TheVariants.{End}
-use Rattle.name_table.specs.declared.Found.{Found}
-use Rattle.name_table.specs.declared.Found.TheVariants.{At, Nothing}
 use Rattle.name_table.proofs.Entries.{located_length, entry_length, entry_kind, entry_rest}
 use Rattle.name_table.proofs.Meaning.{good_iff}
 use Rattle.name_table.proofs.Records.{record_stands, next_stands, next_at, long, none_at, no_record, record_of_data}
@@ -43,15 +34,15 @@ unfolding step_before form_before kind_before form_by
 step_six s σ e = split (is_whole s) (λ w. rw (w, e)) (λ w. rw w)
 
 -- a step moves on by the length of its entry
-moved : (f : Form) (k : ℕ) (b : List ℕ) (len : ℕ) (σ τ : State) → step_by f k b len σ ≡ on τ → τ.at ≡ σ.at + len
-moved Name k b len σ τ e = go (find_name σ.names b) e
+moved : (f : Option Form) (k : ℕ) (b : List ℕ) (len : ℕ) (σ τ : State) → step_by f k b len σ ≡ on τ → τ.at ≡ σ.at + len
+moved (Some Name) k b len σ τ e = go (find_name σ.names b) e
   where
-    go : (x : Found) → if_new x (with_name σ k b len) ≡ on τ → τ.at ≡ σ.at + len
-    go (At j) q = absurd (let z : ◌≡◌ {A = ℕ} 0 1 = cc in omega arith)
-    go Nothing q = let z : with_name σ k b len ≡ τ = cc in ap (λ (v : State). v.at) (sym z)
-moved Record k b len σ τ e = let z : record { names = σ.names; records = σ.records + 1; at = σ.at + len } ≡ τ = cc in ap (λ (v : State). v.at) (sym z)
-moved Mask k b len σ τ e = let z : record { names = σ.names; records = σ.records; at = σ.at + len } ≡ τ = cc in ap (λ (v : State). v.at) (sym z)
-moved Bad k b len σ τ e = absurd (let z : ◌≡◌ {A = ℕ} 0 1 = cc in omega arith)
+    go : (x : Option ℕ) → if_new x (with_name σ k b len) ≡ on τ → τ.at ≡ σ.at + len
+    go (Some j) q = absurd (let z : ◌≡◌ {A = ℕ} 0 1 = cc in omega arith)
+    go None q = let z : with_name σ k b len ≡ τ = cc in ap (λ (v : State). v.at) (sym z)
+moved (Some Record) k b len σ τ e = let z : record { names = σ.names; records = σ.records + 1; at = σ.at + len } ≡ τ = cc in ap (λ (v : State). v.at) (sym z)
+moved (Some Mask) k b len σ τ e = let z : record { names = σ.names; records = σ.records; at = σ.at + len } ≡ τ = cc in ap (λ (v : State). v.at) (sym z)
+moved None k b len σ τ e = absurd (let z : ◌≡◌ {A = ℕ} 0 1 = cc in omega arith)
 
 step_moves : (s : List ℕ) (σ τ : State) → step s σ ≡ on τ → τ.at ≡ σ.at + length_at s
 unfolding step

@@ -1,12 +1,5 @@
 -- Lists of entries: the state that the check has after them, an entry that stands at the start of some octets, and that no other does.
-use Prim.Native.Nat.{ℕ, suc, zero, ◌+◌, ◌-◌, ◌<◌, ◌≤◌}
-use mathlib.Core.Path.{◌≡◌, refl, sym, ap, ◌∙◌}
-use mathlib.Core.List.{List, [], ◌∷◌, ◌++◌, append_assoc, append-nil}
-use mathlib.Core.Logic.{◌⊎◌, inl, inr}
-use native.Mathlib.Omega.{arith}
-use native.Mathlib.Nat.{add-zero, zero-add}
-use lib.ListN.{length, get_or, drop, length-append}
-use lib.Seq.{take_at, drop_at}
+use Rattle.std.proofs.Common.{ℕ, suc, zero, ◌+◌, ◌-◌, ◌<◌, ◌≤◌, ◌≡◌, refl, sym, ap, ◌∙◌, List, [], ◌∷◌, ◌++◌, append_assoc, append-nil, ◌⊎◌, inl, inr, arith, add-zero, zero-add, length, get_or, drop, length-append, take_at, drop_at}
 use Rattle.octets.specs.Bounds.{used_by4, used_by6}
 use Rattle.octets.proofs.Octets.{part_in}
 use Rattle.names.specs.Names.{Labels, IsName, encode}

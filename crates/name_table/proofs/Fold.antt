@@ -1,19 +1,14 @@
 -- The check as a fold: a turn of it, its fuel, and that checking x ++ y is checking y from the state after x.
-use Prim.Native.Nat.{ℕ, suc, zero, ◌+◌, ◌-◌, ◌<◌, ◌≤◌}
-use mathlib.Core.Path.{◌≡◌, refl, sym, ap, ◌∙◌}
-use mathlib.Core.List.{List, [], ◌∷◌, ◌++◌}
-use mathlib.Core.Bool.{true, false}
-use native.Mathlib.Omega.{arith}
-use lib.Dec.{eqb}
-use lib.ListN.{length, take, drop, length-append, length-drop, get_or-append}
-use lib.Seq.{take-append-le, drop-append-le}
-use borrow.Author.Tests.{eq-eqb, ne_eqb, le-leb, eqb-true, eqb-false, leb-true}
+use Rattle.std.proofs.Common.{ℕ, suc, zero, ◌+◌, ◌-◌, ◌<◌, ◌≤◌, ◌≡◌, refl, sym, ap, ◌∙◌, List, [], ◌∷◌, ◌++◌, true, arith, eqb, length, take, drop, length-append, length-drop, eq-eqb, ne_eqb, le-leb, eqb-true, leb-true}
+use Rattle.std.proofs.lemmas.List.{take-append-le, drop-append-le}
+use Rattle.std.proofs.lemmas.Bool.{eqb-false}
+use Rattle.std.proofs.Math.ListN.{get_or-append}
 use Rattle.octets.specs.Octets.{part_of}
 use Rattle.octets.proofs.Tests.{split, both}
 use Rattle.octets.proofs.Octets.{part_in}
 use Rattle.name_table.specs.Bounds.{entry_head}
 use Rattle.name_table.specs.Kinds.{kind_of}
-use Rattle.name_table.specs.Check.{State, Stepped, on, broken, whole, stopped, length_at, kind_at, body_at, is_whole, whole_length, form_by, form_at, step_by, step, from, check_from}
+use Rattle.name_table.specs.Check.{State, Stepped, on, broken, whole, stopped, length_at, kind_at, body_at, is_whole, form_by, form_at, step_by, step, from, check_from}
 
 -- an entry's length and kind are there, and its length counts them and lies within s
 pub record Whole (s : List ℕ) : Type 0 where
@@ -31,18 +26,6 @@ whole_is s e =
     let t = (both _ _).0 e in
     let u = (both _ _).0 t.1 in
     record { head = leb-true _ _ t.0; least = leb-true _ _ u.0; inside = leb-true _ _ u.1 }
-
--- the length of a whole entry is not 0, and no other entry's is
-module _ (s : List ℕ) where
-  pub some_whole : (whole_length s ≡ 0 → ⊥) → is_whole s ≡ true
-  some_whole n = split (is_whole s) (λ w. w) (λ w. absurd (n (rw w)))
-
-  pub none_whole : whole_length s ≡ 0 → is_whole s ≡ false
-  none_whole e =
-      split (is_whole s) (λ w. let l : length_at s ≡ 0 = rw w at e in absurd (omega (arith, (whole_is s w).least))) (λ w. w)
-
-  pub whole_length_lem : is_whole s ≡ true → whole_length s ≡ length_at s
-  whole_length_lem w = rw w
 
 -- a step that takes an entry takes a whole one
 pub step_whole : (s : List ℕ) (σ τ : State) → step s σ ≡ on τ → Whole s

@@ -1,9 +1,5 @@
 -- What a good table holds, for callers: each of its names is a name, there are at most 8, and one is found by every spelling of it.
-use Prim.Native.Nat.{ℕ, zero, suc, ◌+◌, ◌<◌, ◌≤◌}
-use mathlib.Core.Path.{◌≡◌, refl, sym, ap, ◌∙◌, subst}
-use mathlib.Core.List.{List, [], ◌∷◌}
-use native.Mathlib.Omega.{arith}
-use lib.ListN.{length, get_or}
+use Rattle.std.proofs.Common.{Some, ℕ, zero, suc, ◌+◌, ◌<◌, ◌≤◌, ◌≡◌, refl, sym, ap, ◌∙◌, subst, List, [], ◌∷◌, arith, length, get_or}
 use Rattle.octets.specs.Octets.{Octets}
 use Rattle.octets.proofs.Tests.{split}
 use Rattle.names.specs.Names.{Labels, IsName, encode}
@@ -12,7 +8,6 @@ use Rattle.names.proofs.Names.{same_labels}
 use Rattle.name_table.specs.Bounds.{most_names, entry_head}
 use Rattle.name_table.specs.Check.{Held, Checked, no_name, names_in, good, check_table, find_from, find_name}
 use Rattle.name_table.specs.Entries.{Entry, name, resource, mask, data_octets, names, GoodTable, located}
-use Rattle.name_table.specs.declared.Found.TheVariants.{At}
 use Rattle.name_table.proofs.Entries.{AreNames, located_length}
 use Rattle.name_table.proofs.Meaning.{all_names, good_iff}
 use Rattle.name_table.proofs.Numbers.{finds}
@@ -28,15 +23,15 @@ named_at o (resource d ∷ es) k x h = named_at (o + (entry_head + length (data_
 named_at o (mask m ∷ es) k x h = named_at (o + 5) es k x h
 
 -- The number of a name that is found is below the number of names.
-found_from : (j : ℕ) (hs : List Held) (x : List ℕ) (k : ℕ) → find_from j hs x ≡ At k → k < j + length hs
+found_from : (j : ℕ) (hs : List Held) (x : List ℕ) (k : ℕ) → find_from j hs x ≡ Some k → k < j + length hs
 unfolding find_from
 found_from j [] x k e = let z : ◌≡◌ {A = ℕ} 0 1 = cc in absurd (omega arith)
 found_from j (h ∷ hs) x k e =
     split (same_name h.octets x)
-    (λ p. let f : At j ≡ At k = rw p at e in let g : j ≡ k = cc in omega arith)
-    (λ p. let f : find_from (j + 1) hs x ≡ At k = rw p at e in omega (arith, found_from (j + 1) hs x k f))
+    (λ p. let f : Some j ≡ Some k = rw p at e in let g : j ≡ k = cc in omega arith)
+    (λ p. let f : find_from (j + 1) hs x ≡ Some k = rw p at e in omega (arith, found_from (j + 1) hs x k f))
 
-pub found_below : (hs : List Held) (x : List ℕ) (k : ℕ) → find_name hs x ≡ At k → k < length hs
+pub found_below : (hs : List Held) (x : List ℕ) (k : ℕ) → find_name hs x ≡ Some k → k < length hs
 found_below hs x k e = omega (arith, found_from 0 hs x k e)
 
 module _ (table : List ℕ) (hs : List Held) (o : Octets table) (e : check_table table ≡ good hs) where
@@ -62,7 +57,7 @@ module _ (table : List ℕ) (hs : List Held) (o : Octets table) (e : check_table
     held_name = (get_or (names entries_of.0.entries) k [], there.0, octets_are)
 
     -- It is found by every name that equals it.
-    pub found_by : (n m : Labels) → IsName n → IsName m → (get_or hs k no_name).octets ≡ encode m → folded_name m ≡ folded_name n → find_name hs (encode n) ≡ At k
+    pub found_by : (n m : Labels) → IsName n → IsName m → (get_or hs k no_name).octets ≡ encode m → folded_name m ≡ folded_name n → find_name hs (encode n) ≡ Some k
     found_by n m a b q f =
         let t = entries_of.0 in
         let p : get_or (names t.entries) k [] ≡ m = same_labels _ m there.0.labels b.labels (sym octets_are ∙ q) in

@@ -1,21 +1,12 @@
 -- One entry: the step takes exactly the entries that keep the rules, and where it takes none a rule is broken.
-use Prim.Native.Nat.{ℕ, suc, ◌+◌, ◌-◌, ◌/◌, ◌%◌, ◌<◌, ◌≤◌}
-use mathlib.Core.Path.{◌≡◌, refl, sym, ap, ◌∙◌, subst}
-use mathlib.Core.List.{List, [], ◌∷◌, ◌++◌}
-use mathlib.Core.Bool.{Bool, true, false}
-use mathlib.Core.Logic.{◌⊎◌, inl, inr, ⊎_elim}
-use native.Mathlib.Omega.{arith}
-use native.Mathlib.Nat.{add-zero}
-use lib.Dec.{leb, eqb}
-use lib.ListN.{length, get_or, take, drop, length-append, take-append-drop}
-use lib.Seq.{drop-drop, take-length}
-use borrow.Author.Tests.{eq-eqb, eqb-true, eqb-false, leb-true, leb-false}
+use Rattle.names.specs.declared.Name.{Name}
+use Rattle.std.proofs.Common.{None, Option, Some, ℕ, suc, ◌+◌, ◌-◌, ◌/◌, ◌%◌, ◌<◌, ◌≤◌, ◌≡◌, refl, sym, ap, ◌∙◌, subst, List, [], ◌∷◌, ◌++◌, Bool, true, false, ◌⊎◌, inl, inr, ⊎_elim, arith, add-zero, leb, eqb, length, get_or, take, drop, length-append, take-append-drop, drop-drop, eq-eqb, eqb-true, leb-true, leb-false}
+use Rattle.std.proofs.lemmas.Bool.{eqb-false}
+use Rattle.std.proofs.Math.Seq.{take-length}
 use Rattle.octets.specs.Bounds.{used_by4, used_by6}
 use Rattle.octets.specs.Octets.{Octets}
 use Rattle.octets.proofs.Tests.{split, never}
 use Rattle.octets.proofs.Octets.{octet_at_lem, octets_part, part_in, length_part}
-use Rattle.names.specs.declared.NameRead.{NameRead}
-use Rattle.names.specs.declared.NameRead.TheVariants.{Good as GoodName, Bad as BadName}
 use Rattle.names.specs.NameWalk.{name_at}
 use Rattle.names.specs.Names.{Labels, IsName, NameAt, encode}
 use Rattle.names.specs.Folding.{folded_name, same_name}
@@ -23,8 +14,6 @@ use Rattle.names.proofs.Names.{reads_a_name, finds_name, encode_some, encode_oct
 use Rattle.names.proofs.Folding.{same_names}
 use Rattle.name_table.specs.Bounds.{most_names, most_records, entry_head}
 use Rattle.name_table.specs.Kinds.{kind_of}
-use Rattle.name_table.specs.declared.Found.{Found}
-use Rattle.name_table.specs.declared.Found.TheVariants.{At, Nothing}
 use Rattle.name_table.specs.Check.{State, Stepped, on, broken, length_at, kind_at, body_at, is_whole, length_is, name_fills, name_form, record_form, mask_fits, mask_form, form_by, form_at, find_from, find_name, if_new, with_name, with_record, with_mask, step_by, step}
 use Rattle.name_table.specs.Entries.{NameKind, unique, shared, Data, a, aaaa, ptr, Entry, name, resource, mask, kind, data_octets, body, entry_octets, names, records, New, NameRules, DataRules, MaskRules, Keeps, Breaks, cut_short, length_below_head, past_the_end, kind_zero, kind_above_6, not_a_name, not_4_octets, not_16_octets, not_1_octet, mask_zero, mask_above_15, root_name, too_many_names, equal_name, no_owner, too_many_records, located}
 use Rattle.name_table.proofs.Masks.{fits_exactly}
@@ -32,9 +21,9 @@ use Rattle.name_table.proofs.Fold.{Whole, whole_is, step_of, step_is}
 use Rattle.name_table.proofs.Entries.{AreNames, state_of, located_length, after_name, after_record, after_mask, one_entry, none_stands}
 
 -- the search for a name among those of some entries
-pub data Sought (ms : List Labels) (n : Labels) (k : ℕ) (r : Found) : Type 0 where
-  equal : (i : ℕ) → i < length ms → folded_name (get_or ms i []) ≡ folded_name n → r ≡ At (k + i) → Sought ms n k r
-  none : New ms n → r ≡ Nothing → Sought ms n k r
+pub data Sought (ms : List Labels) (n : Labels) (k : ℕ) (r : Option ℕ) : Type 0 where
+  equal : (i : ℕ) → i < length ms → folded_name (get_or ms i []) ≡ folded_name n → r ≡ Some (k + i) → Sought ms n k r
+  none : New ms n → r ≡ None → Sought ms n k r
 
 pub seek : (k o : ℕ) (es : List Entry) (n : Labels) → AreNames (names es) → IsName n
     → Sought (names es) n k (find_from k (located o es) (encode n))
@@ -45,11 +34,11 @@ seek k o (mask m ∷ es) n x h = seek k (o + 5) es n x h
 seek k o (name j m ∷ es) n x h =
     let i = same_names m n x.0 h in
     split (same_name (encode m) (encode n))
-    (λ f. equal 0 (omega arith) (i.0 f) (rw f (ap At (sym (add-zero k)))))
+    (λ f. equal 0 (omega arith) (i.0 f) (rw f (ap Some (sym (add-zero k)))))
     (λ f. rw f (later (λ q. let g = i.1 q in let z : ◌≡◌ {A = ℕ} 0 1 = cc in omega arith) (seek (k + 1) (o + (entry_head + length (encode m))) es n x.1 h)))
   where
-    later : {r : Found} → (folded_name m ≡ folded_name n → ⊥) → Sought (names es) n (k + 1) r → Sought (m ∷ names es) n k r
-    later f (equal i l e q) = equal (suc i) (omega arith) e (q ∙ ap At (omega arith))
+    later : {r : Option ℕ} → (folded_name m ≡ folded_name n → ⊥) → Sought (names es) n (k + 1) r → Sought (m ∷ names es) n k r
+    later f (equal i l e q) = equal (suc i) (omega arith) e (q ∙ ap Some (omega arith))
     later f (none w q) = none (f, w) q
 
 -- a body that a name fills
@@ -68,13 +57,13 @@ fills_name : (b : List ℕ) → Octets b → name_fills b ≡ true → Filled b
 unfolding name_fills
 fills_name b o e = go (name_at b 0) refl e
   where
-    go : (r : NameRead) → name_at b 0 ≡ r → length_is r (length b) ≡ true → Filled b
-    go (GoodName n) q f =
+    go : (r : Option Name) → name_at b 0 ≡ r → length_is r (length b) ≡ true → Filled b
+    go (Some n) q f =
         let l : n.len ≡ length b = eqb-true _ _ f in
         let m = ((reads_a_name b 0 n o).0 q).name_at in
         let whole : length (encode m.name) ≡ length b = sym m.len_is ∙ l in
         record { name = m.name; is_name = m.is_name; octets = sym (take-length b) ∙ ap (λ (i : ℕ). take i b) (sym whole) ∙ m.octets }
-    go BadName q f = absurd (let z : ◌≡◌ {A = ℕ} 0 1 = cc in omega arith)
+    go None q f = absurd (let z : ◌≡◌ {A = ℕ} 0 1 = cc in omega arith)
 
 no_name_lem : (b : List ℕ) → name_fills b ≡ false → (n : Labels) → IsName n → b ≡ encode n → ⊥
 no_name_lem b e n h q =
@@ -150,10 +139,10 @@ module _ (es : List Entry) (s : List ℕ) (o : Octets s) (x : AreNames (names es
           → Sought (names es) n 0 (find_from 0 (located 0 es) (encode n))
           → Judged es s (if_new (find_name (located 0 es) (body_at s)) (with_name (state_of es) (kind_at s) (body_at s) (length_at s)))
       found n h b g l (equal j m q e) =
-          let t : find_name (located 0 es) (body_at s) ≡ At (0 + j) = ap (find_name (located 0 es)) b ∙ e in
+          let t : find_name (located 0 es) (body_at s) ≡ Some (0 + j) = ap (find_name (located 0 es)) b ∙ e in
           refused (equal_name low n j h b m q) (rw t)
       found n h b g l (none v e) =
-          let t : find_name (located 0 es) (body_at s) ≡ Nothing = ap (find_name (located 0 es)) b ∙ e in
+          let t : find_name (located 0 es) (body_at s) ≡ None = ap (find_name (located 0 es)) b ∙ e in
           let rules : NameRules es n = record { is_name = h; not_root = λ q. omega (arith, ap length (b ∙ ap encode q)); eight_names = omega (arith, located_length 0 es); new = v } in
           let state = ap (λ (u : ℕ). with_name (state_of es) u (body_at s) (length_at s)) (i ∙ same k n) ∙ ap (λ (u : List ℕ). with_name (state_of es) (kind (name k n)) u (length_at s)) b ∙ ap (with_name (state_of es) (kind (name k n)) (encode n)) (size_is s (name k n) w b) ∙ after_name es k n in
           taken (name k n) rules (stands s (name k n) w b o (i ∙ same k n)) (rw t (ap on state))

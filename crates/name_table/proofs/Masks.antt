@@ -1,12 +1,5 @@
 -- Masks: which bit is whose; and that each record of a name has the mask of the last kind 6 before it, or 15.
-use Prim.Native.Nat.{ℕ, suc, zero, ◌+◌, ◌/◌, ◌%◌, ◌<◌, ◌≤◌}
-use mathlib.Core.Path.{◌≡◌, refl, sym, ap, subst}
-use mathlib.Core.List.{List, [], ◌∷◌, ◌++◌}
-use mathlib.Core.Bool.{true, false}
-use mathlib.Core.Logic.{◌↔◌, inl, inr}
-use native.Mathlib.Omega.{arith}
-use lib.ListN.{length, get_or}
-use borrow.Author.Tests.{eq-eqb, ne_eqb, eqb-true}
+use Rattle.std.proofs.Common.{ℕ, suc, zero, ◌+◌, ◌/◌, ◌%◌, ◌<◌, ◌≤◌, ◌≡◌, refl, sym, ap, subst, List, [], ◌∷◌, ◌++◌, true, false, ◌↔◌, inl, inr, arith, length, get_or, eq-eqb, ne_eqb, eqb-true}
 use Rattle.octets.specs.Octets.{octet_at}
 use Rattle.octets.proofs.Tests.{never, both_is, same_number, below_number, upto_number}
 use Rattle.names.specs.Names.{Labels}

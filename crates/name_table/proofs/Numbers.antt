@@ -1,27 +1,15 @@
 -- Names by number: what `find` and `name` give on a good table.
-use Prim.Native.Nat.{ℕ, suc, ◌+◌, ◌<◌, ◌≤◌, min}
-use mathlib.Core.Path.{◌≡◌, refl, sym, ap, ◌∙◌, subst}
-use mathlib.Core.List.{List, [], ◌∷◌, ◌++◌, append_assoc, append-nil}
-use mathlib.Core.Bool.{Bool, true, false}
-use mathlib.Core.Logic.{◌↔◌}
-use native.Mathlib.Omega.{arith}
-use native.Mathlib.Nat.{zero-add}
-use lib.ListN.{length, get_or, length-append, get_or-append}
-use lib.Seq.{get_or-append-add}
-use lib.Dec.{leb}
-use borrow.Author.Tests.{lt-leb, le-leb, leb-true, leb-false}
+use Rattle.std.proofs.Common.{None, Some, option_map, slice_get, ℕ, suc, zero, ◌+◌, ◌<◌, ◌≤◌, ◌≡◌, refl, sym, ap, ◌∙◌, subst, List, [], ◌∷◌, ◌++◌, append_assoc, append-nil, Bool, true, false, ◌↔◌, arith, zero-add, length, get_or, length-append, get_or-append-add, leb, leb-true, leb-false}
+use Rattle.std.proofs.Math.ListN.{get_or-append}
 use Rattle.octets.proofs.Tests.{split}
 use Rattle.names.specs.Names.{Labels, IsName, encode}
 use Rattle.names.specs.Folding.{folded_name}
-use Rattle.name_table.specs.Bounds.{most_names}
 use Rattle.name_table.specs.Kinds.{kind_of}
 use Rattle.name_table.specs.Check.{no_name, find_name}
 use Rattle.name_table.specs.Entries.{Entry, name, resource, mask, names, New, Keeps, AllKeep, GoodTable, located}
-use Rattle.name_table.specs.Shown.{held_at, names_of, name_of}
+use Rattle.name_table.specs.Shown.{held_all, places_of, named_of, names_of, name_of}
+use Rattle.name_table.specs.declared.Place.{Place}
 use Rattle.name_table.specs.declared.Table.{Table}
-use Rattle.name_table.specs.declared.Found.TheVariants.{At, Nothing}
-use Rattle.name_table.specs.declared.NameFound.TheVariants.{At as Named, Nothing as Unnamed}
-use Rattle.name_table.proofs.Shown.{held_length, held_at_lem}
 use Rattle.name_table.proofs.Entries.{names_append, not_new}
 use Rattle.name_table.proofs.Judge.{Sought, equal, none, seek}
 use Rattle.name_table.proofs.Meaning.{all_names}
@@ -61,7 +49,7 @@ distinct before (e ∷ es) d h =
 
 module _ (s : List ℕ) (t : GoodTable s) (n : Labels) (h : IsName n) where
   -- The number found is that of the one name that equals n.
-  pub finds : (k : ℕ) → (find_name (located 0 t.entries) (encode n) ≡ At k)
+  pub finds : (k : ℕ) → (find_name (located 0 t.entries) (encode n) ≡ Some k)
       ↔ ((k < length (names t.entries)) × (folded_name (get_or (names t.entries) k []) ≡ folded_name n))
   finds k = (to, from)
     where
@@ -74,14 +62,14 @@ module _ (s : List ℕ) (t : GoodTable s) (n : Labels) (h : IsName n) where
       apart : Distinct ms
       apart = distinct [] t.entries (λ i j a b e. omega arith) t.keep
 
-      to : find_name (located 0 t.entries) (encode n) ≡ At k → (k < length ms) × (folded_name (get_or ms k []) ≡ folded_name n)
+      to : find_name (located 0 t.entries) (encode n) ≡ Some k → (k < length ms) × (folded_name (get_or ms k []) ≡ folded_name n)
       to e = go sought
         where
           go : Sought ms n 0 (find_name (located 0 t.entries) (encode n)) → (k < length ms) × (folded_name (get_or ms k []) ≡ folded_name n)
           go (equal i l q r) = let z : 0 + i ≡ k = cc in let y : i ≡ k = omega arith in (omega arith, ap (λ (x : ℕ). folded_name (get_or ms x [])) (sym y) ∙ q)
           go (none w r) = absurd (let z : ◌≡◌ {A = ℕ} 0 1 = cc in omega arith)
 
-      from : (k < length ms) × (folded_name (get_or ms k []) ≡ folded_name n) → find_name (located 0 t.entries) (encode n) ≡ At k
+      from : (k < length ms) × (folded_name (get_or ms k []) ≡ folded_name n) → find_name (located 0 t.entries) (encode n) ≡ Some k
       from (l, q) = go sought
         where
           same : (i : ℕ) → i < length ms → folded_name (get_or ms i []) ≡ folded_name n → i ≡ k
@@ -92,42 +80,46 @@ module _ (s : List ℕ) (t : GoodTable s) (n : Labels) (h : IsName n) where
               let b : i < suc k = leb-false _ _ r in
               omega arith
 
-          go : Sought ms n 0 (find_name (located 0 t.entries) (encode n)) → find_name (located 0 t.entries) (encode n) ≡ At k
-          go (equal i m e r) = r ∙ ap At (zero-add i ∙ same i m e)
+          go : Sought ms n 0 (find_name (located 0 t.entries) (encode n)) → find_name (located 0 t.entries) (encode n) ≡ Some k
+          go (equal i m e r) = r ∙ ap Some (zero-add i ∙ same i m e)
           go (none w r) = absurd (not_new ms n k l q w)
 
   -- None is found exactly if n equals no name of the table.
-  pub finds_none : (find_name (located 0 t.entries) (encode n) ≡ Nothing) ↔ New (names t.entries) n
+  pub finds_none : (find_name (located 0 t.entries) (encode n) ≡ None) ↔ New (names t.entries) n
   finds_none = (to, from)
     where
-      to : find_name (located 0 t.entries) (encode n) ≡ Nothing → New (names t.entries) n
+      to : find_name (located 0 t.entries) (encode n) ≡ None → New (names t.entries) n
       to e = go (seek 0 0 t.entries n (all_names [] t.entries tt t.keep) h)
         where
           go : Sought (names t.entries) n 0 (find_name (located 0 t.entries) (encode n)) → New (names t.entries) n
           go (equal i l q r) = absurd (let z : ◌≡◌ {A = ℕ} 0 1 = cc in omega arith)
           go (none w r) = w
 
-      from : New (names t.entries) n → find_name (located 0 t.entries) (encode n) ≡ Nothing
+      from : New (names t.entries) n → find_name (located 0 t.entries) (encode n) ≡ None
       from w = go (seek 0 0 t.entries n (all_names [] t.entries tt t.keep) h)
         where
-          go : Sought (names t.entries) n 0 (find_name (located 0 t.entries) (encode n)) → find_name (located 0 t.entries) (encode n) ≡ Nothing
+          go : Sought (names t.entries) n 0 (find_name (located 0 t.entries) (encode n)) → find_name (located 0 t.entries) (encode n) ≡ None
           go (equal i l q r) = absurd (not_new (names t.entries) n i l q w)
           go (none v r) = r
 
 module _ (s : List ℕ) (v : Table) (k : ℕ) where
   -- The name with a number is the one in that place; there is none past the last.
   pub name_is : k < length (names_of s v)
-      → name_of v k ≡ Named (record { kind = kind_of (get_or (names_of s v) k no_name).kind; start = (get_or (names_of s v) k no_name).start; end = (get_or (names_of s v) k no_name).end })
+      → name_of v k ≡ Some (record { kind = kind_of (get_or (names_of s v) k no_name).kind; start = (get_or (names_of s v) k no_name).start; end = (get_or (names_of s v) k no_name).end })
   unfolding name_of
-  name_is h =
-      let n : ℕ = min v.names most_names in
-      let l : k < n = omega (arith, held_length s n v.kinds v.starts v.ends 0) in
-      let e : get_or (names_of s v) k no_name ≡ held_at s v.kinds v.starts v.ends k = held_at_lem s n v.kinds v.starts v.ends 0 k no_name l ∙ ap (held_at s v.kinds v.starts v.ends) (zero-add k) in
-      rw (lt-leb _ _ l, e)
+  name_is h = name_at_place (places_of v) k h
+    where
+      name_at_place : (ps : List Place) (i : ℕ) → i < length (held_all s ps)
+          → option_map named_of (slice_get ps i) ≡ Some (record { kind = kind_of (get_or (held_all s ps) i no_name).kind; start = (get_or (held_all s ps) i no_name).start; end = (get_or (held_all s ps) i no_name).end })
+      name_at_place [] i h = absurd (omega arith)
+      name_at_place (p ∷ ps) zero h = refl
+      name_at_place (p ∷ ps) (suc i) h = name_at_place ps i (omega arith)
 
-  pub name_none : length (names_of s v) ≤ k → name_of v k ≡ Unnamed
+  pub name_none : length (names_of s v) ≤ k → name_of v k ≡ None
   unfolding name_of
-  name_none h =
-      let n : ℕ = min v.names most_names in
-      let l : n ≤ k = omega (arith, held_length s n v.kinds v.starts v.ends 0) in
-      rw (le-leb _ _ l)
+  name_none h = no_place (places_of v) k h
+    where
+      no_place : (ps : List Place) (i : ℕ) → length (held_all s ps) ≤ i → option_map named_of (slice_get ps i) ≡ None
+      no_place [] i h = refl
+      no_place (p ∷ ps) zero h = absurd (omega arith)
+      no_place (p ∷ ps) (suc i) h = no_place ps i (omega arith)

@@ -1,10 +1,5 @@
 -- What the names and records of a good table are, by number.
-use Prim.Native.Nat.{ℕ, suc, zero, ◌+◌, ◌-◌, ◌<◌, ◌≤◌}
-use mathlib.Core.Path.{◌≡◌, refl, sym, ap, ◌∙◌, subst}
-use mathlib.Core.List.{List, [], ◌∷◌, ◌++◌, append_assoc, map}
-use native.Mathlib.Omega.{arith}
-use lib.ListN.{length, get_or, take, drop, length-append, length-drop}
-use lib.Seq.{take_at, drop_at, drop-drop}
+use Rattle.std.proofs.Common.{ℕ, suc, zero, ◌+◌, ◌-◌, ◌<◌, ◌≤◌, ◌≡◌, refl, sym, ap, ◌∙◌, subst, List, [], ◌∷◌, ◌++◌, append_assoc, map, arith, length, get_or, take, drop, length-append, length-drop, take_at, drop_at, drop-drop}
 use Rattle.octets.specs.Octets.{part_of}
 use Rattle.octets.proofs.Tests.{split}
 use Rattle.octets.proofs.Octets.{part_in}

@@ -1,12 +1,11 @@
 -- The check of a table and the records of a name as they were without masks: five kinds, and the records are all that follow. They serve to
 -- say that what has no kind 6 is read as it was: proofs/Before.antt.
-use Rattle.std.specs.Prelude.{ℕ, zero, suc, ◌+◌, List, [], ◌∷◌, cond, length, drop, ltb, eqb}
+use Rattle.std.specs.Prelude.{ℕ, zero, suc, ◌+◌, List, [], ◌∷◌, cond, length, drop, ltb, eqb, None, Option}
 use Rattle.octets.specs.Bounds.{used_by4, used_by6}
 use Rattle.name_table.specs.Bounds.{longest_table, entry_head, type_a, type_ptr, type_aaaa}
 use Rattle.name_table.specs.Check.{length_at, kind_at, body_at, is_whole, form_by, State, Stepped, step_by, Walked, whole, stopped, on_step, start, Checked, bad, checked_by}
 use Rattle.name_table.specs.Records.{record_by}
 use Rattle.name_table.specs.declared.Form.{Form}
-use Rattle.name_table.specs.declared.Form.TheVariants.{Bad}
 use Rattle.name_table.specs.declared.Kind.{Kind}
 use Rattle.name_table.specs.declared.Kind.TheVariants.{Unique, Shared, Octets, Target, Unknown}
 use Rattle.name_table.specs.declared.Record.{Record}
@@ -23,8 +22,8 @@ kind_before k =
     Unknown))))
 
 -- the check
-unfoldable pub form_before : List ℕ → ℕ → ℕ → Form
-form_before s names records = cond (is_whole s) (form_by (kind_before (kind_at s)) names records (body_at s)) Bad
+unfoldable pub form_before : List ℕ → ℕ → ℕ → Option Form
+form_before s names records = cond (is_whole s) (form_by (kind_before (kind_at s)) names records (body_at s)) None
 
 unfoldable pub step_before : List ℕ → State → Stepped
 step_before s σ = step_by (form_before s (length σ.names) σ.records) (kind_at s) (body_at s) (length_at s) σ

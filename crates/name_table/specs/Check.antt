@@ -1,10 +1,9 @@
 -- The check of a name table, to be computed: a fold of one entry's step over a small state. What it means: specs/Entries.antt.
-use Rattle.std.specs.Prelude.{ℕ, zero, suc, ◌+◌, List, [], ◌∷◌, ◌++◌, Bool, true, false, cond, length, get_or, drop, ltb, leb, eqb}
+use Rattle.std.specs.Prelude.{ℕ, zero, suc, ◌+◌, List, [], ◌∷◌, ◌++◌, Bool, true, false, cond, length, get_or, drop, ltb, leb, eqb, None, Option, Some}
 use Rattle.octets.specs.Octets.{octet_at, part_of}
 use Rattle.octets.specs.Words.{little_at}
 use Rattle.octets.specs.Tests.{◌and◌}
-use Rattle.names.specs.declared.NameRead.{NameRead}
-use Rattle.names.specs.declared.NameRead.TheVariants.{Good as GoodName, Bad as BadName}
+use Rattle.names.specs.declared.Name.{Name as PlainName}
 use Rattle.names.specs.NameWalk.{name_at}
 use Rattle.names.specs.Folding.{same_name}
 use Rattle.name_table.specs.Bounds.{longest_table, most_names, most_records, entry_head}
@@ -13,9 +12,7 @@ use Rattle.name_table.specs.Masks.{is_mask}
 use Rattle.name_table.specs.declared.Kind.{Kind}
 use Rattle.name_table.specs.declared.Kind.TheVariants.{Unique, Shared, Octets, Target, Mask, Unknown}
 use Rattle.name_table.specs.declared.Form.{Form}
-use Rattle.name_table.specs.declared.Form.TheVariants.{Name, Record, Mask, Bad}
-use Rattle.name_table.specs.declared.Found.{Found}
-use Rattle.name_table.specs.declared.Found.TheVariants.{At, Nothing}
+use Rattle.name_table.specs.declared.Form.TheVariants.{Name, Record, Mask}
 
 -- length, kind and body of the entry at the start of s
 abbrev pub length_at : List ℕ → ℕ
@@ -31,54 +28,54 @@ body_at s = part_of s entry_head (length_at s)
 unfoldable pub is_whole : List ℕ → Bool
 is_whole s = leb entry_head (length s) and leb entry_head (length_at s) and leb (length_at s) (length s)
 
--- its length; 0 where it is not whole
-abbrev pub whole_length : List ℕ → ℕ
-whole_length s = cond (is_whole s) (length_at s) 0
+-- its kind, its body and what follows it; none where it is not whole
+unfoldable pub first_entry : List ℕ → Option (ℕ × List ℕ × List ℕ)
+first_entry s = cond (is_whole s) (Some (kind_at s, body_at s, drop (length_at s) s)) None
 
 -- a name without pointers fills the body
-abbrev pub length_is : NameRead → ℕ → Bool
-length_is (GoodName n) len = eqb n.len len
-length_is BadName len = false
+abbrev pub length_is : Option PlainName → ℕ → Bool
+length_is (Some n) len = eqb n.len len
+length_is None len = false
 
 unfoldable pub name_fills : List ℕ → Bool
 name_fills body = length_is (name_at body 0) (length body)
 
 -- A name's entry is in form if a name that is not the root fills the body, and there are not 8 names already.
-unfoldable pub name_form : ℕ → List ℕ → Form
+unfoldable pub name_form : ℕ → List ℕ → Option Form
 name_form names body =
     cond (name_fills body)
-    (cond (leb (length body) 1) Bad
-    (cond (leb most_names names) Bad
-    Name))
-    Bad
+    (cond (leb (length body) 1) None
+    (cond (leb most_names names) None
+    (Some Name)))
+    None
 
 -- A record's entry is in form if its body is, a name stands before it, and that name has not 24 records already.
-unfoldable pub record_form : ℕ → ℕ → Bool → Form
+unfoldable pub record_form : ℕ → ℕ → Bool → Option Form
 record_form names records body =
     cond body
-    (cond (eqb names 0) Bad
-    (cond (leb most_records records) Bad
-    Record))
-    Bad
+    (cond (eqb names 0) None
+    (cond (leb most_records records) None
+    (Some Record)))
+    None
 
 -- A mask's entry, kind 6, is in form if a name stands before it, and its body is one octet, which is a mask.
 unfoldable pub mask_fits : ℕ → List ℕ → Bool
 mask_fits names body = ltb 0 names and eqb (length body) 1 and is_mask (octet_at body 0)
 
-unfoldable pub mask_form : ℕ → List ℕ → Form
-mask_form names body = cond (mask_fits names body) Mask Bad
+unfoldable pub mask_form : ℕ → List ℕ → Option Form
+mask_form names body = cond (mask_fits names body) (Some Mask) None
 
-unfoldable pub form_by : Kind → ℕ → ℕ → List ℕ → Form
+unfoldable pub form_by : Kind → ℕ → ℕ → List ℕ → Option Form
 form_by Unique names records body = name_form names body
 form_by Shared names records body = name_form names body
 form_by (Octets rtype len) names records body = record_form names records (eqb (length body) len)
 form_by (Target rtype) names records body = record_form names records (name_fills body)
 form_by Mask names records body = mask_form names body
-form_by Unknown names records body = Bad
+form_by Unknown names records body = None
 
 -- the entry at the start of s, after so many names and so many records of the last one
-unfoldable pub form_at : List ℕ → ℕ → ℕ → Form
-form_at s names records = cond (is_whole s) (form_by (kind_of (kind_at s)) names records (body_at s)) Bad
+unfoldable pub form_at : List ℕ → ℕ → ℕ → Option Form
+form_at s names records = cond (is_whole s) (form_by (kind_of (kind_at s)) names records (body_at s)) None
 
 -- a name of the table: its kind, the offsets from which and up to which its octets stand, and these octets
 pub record Held : Type 0 where
@@ -92,21 +89,21 @@ abbrev pub no_name : Held
 no_name = record { kind = 0; start = 0; end = 0; octets = [] }
 
 -- the number of the first name that equals x, counted from k
-unfoldable pub find_from : ℕ → List Held → List ℕ → Found
-find_from k [] x = Nothing
-find_from k (h ∷ hs) x = cond (same_name h.octets x) (At k) (find_from (k + 1) hs x)
+unfoldable pub find_from : ℕ → List Held → List ℕ → Option ℕ
+find_from k [] x = None
+find_from k (h ∷ hs) x = cond (same_name h.octets x) (Some k) (find_from (k + 1) hs x)
 
-abbrev pub find_name : List Held → List ℕ → Found
+abbrev pub find_name : List Held → List ℕ → Option ℕ
 find_name hs x = find_from 0 hs x
 
 -- a name was found; and its number, 0 where none was
-abbrev pub is_found : Found → Bool
-is_found (At k) = true
-is_found Nothing = false
+abbrev pub is_found : Option ℕ → Bool
+is_found (Some k) = true
+is_found None = false
 
-abbrev pub number_or : Found → ℕ
-number_or (At k) = k
-number_or Nothing = 0
+abbrev pub number_or : Option ℕ → ℕ
+number_or (Some k) = k
+number_or None = 0
 
 -- what is kept between entries: the names so far, the records of the last one, the offset of the next entry
 pub record State : Type 0 where
@@ -134,16 +131,16 @@ abbrev pub with_mask : State → ℕ → State
 with_mask σ len = record { names = σ.names; records = σ.records; at = σ.at + len }
 
 -- a name equals no earlier one
-abbrev pub if_new : Found → State → Stepped
-if_new (At k) τ = broken
-if_new Nothing τ = on τ
+abbrev pub if_new : Option ℕ → State → Stepped
+if_new (Some k) τ = broken
+if_new None τ = on τ
 
 -- the step over an entry of a form, with its kind, body and length
-abbrev pub step_by : Form → ℕ → List ℕ → ℕ → State → Stepped
-step_by Name kind body len σ = if_new (find_name σ.names body) (with_name σ kind body len)
-step_by Record kind body len σ = on (with_record σ len)
-step_by Mask kind body len σ = on (with_mask σ len)
-step_by Bad kind body len σ = broken
+abbrev pub step_by : Option Form → ℕ → List ℕ → ℕ → State → Stepped
+step_by (Some Name) kind body len σ = if_new (find_name σ.names body) (with_name σ kind body len)
+step_by (Some Record) kind body len σ = on (with_record σ len)
+step_by (Some Mask) kind body len σ = on (with_mask σ len)
+step_by None kind body len σ = broken
 
 -- the step over the entry at the start of s
 unfoldable pub step : List ℕ → State → Stepped

@@ -1,66 +1,72 @@
 -- How the code's values show those of the definitions: a name's octets are a part of the table. What reading a table gives.
-use Rattle.std.specs.Prelude.{ℕ, zero, suc, ◌+◌, ◌-◌, min, List, [], ◌∷◌, ◌++◌, map, true, false, cond, not, length, get_or, replicate, leb}
+use Rattle.name_table.specs.declared.Named.{Named}
+use Rattle.std.specs.Prelude.{ℕ, ◌-◌, min, List, ◌++◌, Bool, map, length, take, replicate, Option, Result, Ok, Err, option_map, slice_get}
 use Rattle.octets.specs.Octets.{part_of}
+use Rattle.names.specs.Folding.{same_name}
 use Rattle.name_table.specs.Bounds.{most_names}
 use Rattle.name_table.specs.Kinds.{kind_of}
-use Rattle.name_table.specs.Check.{Held, Checked, good, bad, is_bad, bad_at, names_in, check_table}
+use Rattle.name_table.specs.Check.{Held, Checked, good, bad, check_table}
+use Rattle.name_table.specs.declared.Entry.{Entry}
+use Rattle.name_table.specs.declared.Place.{Place}
 use Rattle.name_table.specs.declared.Table.{Table}
-use Rattle.name_table.specs.declared.TableRead.{TableRead}
-use Rattle.name_table.specs.declared.NameFound.{NameFound}
-use Rattle.name_table.specs.declared.NameFound.TheVariants.{At, Nothing}
+use Rattle.name_table.specs.declared.BadTable.{BadTable}
 
-abbrev pub held_at : List ℕ → List ℕ → List ℕ → List ℕ → ℕ → Held
-held_at s kinds starts ends i =
-    record {
-      kind = get_or kinds i 0;
-      start = get_or starts i 0;
-      end = get_or ends i 0;
-      octets = part_of s (get_or starts i 0) (get_or ends i 0);
-    }
+-- an entry that the code cuts off, and what follows it
+abbrev pub cut : Entry → List ℕ → ℕ × List ℕ × List ℕ
+cut e rest = (e.kind, e.body.now, rest)
 
--- n names from the i-th on
-unfoldable pub held_from : ℕ → List ℕ → List ℕ → List ℕ → List ℕ → ℕ → List Held
-held_from zero s kinds starts ends i = []
-held_from (suc n) s kinds starts ends i = held_at s kinds starts ends i ∷ held_from n s kinds starts ends (i + 1)
+-- a name that the code keeps, with its octets
+abbrev pub held_of : List ℕ → Place → Held
+held_of s p = record { kind = p.kind; start = p.start; end = p.end; octets = part_of s p.start p.end }
 
--- the names of a table; a number of names above the most counts as the most
+abbrev pub held_all : List ℕ → List Place → List Held
+held_all s ps = map (held_of s) ps
+
+-- a name that is kept equals a given one
+abbrev pub is_place : List ℕ → List ℕ → Place → Bool
+is_place s x p = same_name (part_of s p.start p.end) x
+
+-- how many names a table has; a number above the most counts as the most
+abbrev pub count_of : Table → ℕ
+count_of t = min t.names most_names
+
+-- the places that count
+abbrev pub places_of : Table → List Place
+places_of t = take (count_of t) t.places
+
+-- the names of a table
 abbrev pub names_of : List ℕ → Table → List Held
-names_of s t = held_from (min t.names most_names) s t.kinds t.starts t.ends 0
+names_of s t = held_all s (places_of t)
 
--- some numbers, one for each name, and zeros after them
-abbrev pub padded : List ℕ → List ℕ
-padded xs = xs ++ replicate (most_names - length xs) 0
+-- a name as the code keeps it
+abbrev pub place_of : Held → Place
+place_of h = record { kind = h.kind; start = h.start; end = h.end }
 
--- the table of some names: an array of their kinds, of their starts and of their ends, and how many there are
+-- some places, and after them those of no name
+abbrev pub padded : List Place → List Place
+padded ps = ps ++ replicate (most_names - length ps) (record { kind = 0; start = 0; end = 0 })
+
+-- the table of some names
 abbrev pub table_of : List Held → Table
-table_of hs =
-    record {
-      kinds = padded (map (λ h. h.kind) hs);
-      starts = padded (map (λ h. h.start) hs);
-      ends = padded (map (λ h. h.end) hs);
-      names = length hs;
-    }
+table_of hs = record { places = padded (map place_of hs); names = length hs }
 
-abbrev pub empty : Table
-empty = table_of []
+-- what reading a table gives: its names, or the offset of its first bad entry
+abbrev pub read_by : Checked → Result Table BadTable
+read_by (good hs) = Ok (table_of hs)
+read_by (bad at) = Err (record { at = at })
 
--- what reading a table gives: whether it is good, the offset of its bad entry (0 if it is good), its names (none if it is bad)
-abbrev pub read_by : Checked → TableRead
-read_by c = record { good = not (is_bad c); at = bad_at c; table = table_of (names_in c) }
-
-unfoldable pub table_read : List ℕ → TableRead
+unfoldable pub table_read : List ℕ → Result Table BadTable
 table_read s = read_by (check_table s)
 
--- the reading that a scan comes to: names that it found before a bad entry are dropped
-abbrev pub settled : TableRead → TableRead
-settled r = cond r.good (record { good = true; at = 0; table = r.table }) (record { good = false; at = r.at; table = empty })
-
 -- what a reading of a table says
-abbrev pub shown : List ℕ → TableRead → Checked
-shown s r = cond r.good (good (names_of s r.table)) (bad r.at)
+abbrev pub shown : List ℕ → Result Table BadTable → Checked
+shown s (Ok t) = good (names_of s t)
+shown s (Err b) = bad b.at
+
+-- a name, its kind by its number
+abbrev pub named_of : Place → Named
+named_of p = record { kind = kind_of p.kind; start = p.start; end = p.end }
 
 -- the k-th name of a table
-unfoldable pub name_of : Table → ℕ → NameFound
-name_of t k =
-    cond (leb (min t.names most_names) k) Nothing
-    (At (record { kind = kind_of (get_or t.kinds k 0); start = get_or t.starts k 0; end = get_or t.ends k 0 }))
+unfoldable pub name_of : Table → ℕ → Option Named
+name_of t k = option_map named_of (slice_get (places_of t) k)

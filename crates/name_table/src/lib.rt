@@ -1,18 +1,25 @@
 // The name table: its check and its names. The records of a name are read in resources.rt.
 #![tactic(auto)]
 
-ghost use Rattle.std.specs.Prelude.{◌≡◌, false, List, ℕ, ◌≤◌, min, length, eqb};
-ghost use Rattle.name_table.specs.Bounds.{longest_table, most_names};
+ghost use Rattle.std.specs.Prelude.{◌≡◌, ◌≤◌, length, option_map, position, min};
+ghost use Rattle.octets.specs.Octets.{part_of};
+ghost use Rattle.name_table.specs.Bounds.{most_names};
 ghost use Rattle.name_table.specs.Kinds.{kind_of};
 ghost use Rattle.name_table.specs.Masks.{is_mask};
-ghost use Rattle.name_table.specs.Check.{whole_length, name_fills, name_form, record_form, mask_form, form_by, find_name};
-ghost use Rattle.name_table.specs.Shown.{held_from, names_of, name_of, empty, settled, table_read};
+ghost use Rattle.name_table.specs.Check.{first_entry, name_fills, name_form, record_form};
+ghost use Rattle.name_table.specs.Check.{mask_form, form_by, find_name};
+ghost use Rattle.name_table.specs.Shown.{cut, is_place, names_of, name_of, table_read, places_of, count_of};
+
+use refusal::Refusal;
+use std::error::Error;
+use std::fmt;
 
 pub mod resources;
 
-// What an entry's kind says of its body: a unique or a shared name, a record's data of so many octets, a record's target, which is a
-// name, or the mask of the records after it.
-#[derive(Clone, Copy)]
+/// What an entry's kind says of its body: a unique or a shared name, a record's data of so many
+/// octets, a record's target, which is a name, or the mask of the records after it.
+// No Option for a number that is no kind: `kind_of` of specs/Kinds gives every number a kind.
+#[derive(Clone, Copy, PartialEq, Eq, Debug)]
 pub enum Kind {
     Unique,
     Shared,
@@ -22,8 +29,10 @@ pub enum Kind {
     Unknown,
 }
 
-// A record of a name: its type, and where its data stands in the table. The next entry begins where the data ends.
-#[derive(Clone, Copy)]
+/// A record of a name: its type, and the offsets of the table from which and up to which its data
+/// stands. The next entry begins where the data ends.
+// Two offsets, and no range: `record_at` of specs/Records, which may not change, gives them.
+#[derive(Clone, Copy, PartialEq, Eq, Debug)]
 pub struct Record {
     pub rtype: u16,
     pub start: usize,
@@ -38,339 +47,342 @@ impl Record {
     pub const AAAA: u16 = 28;
 }
 
-// The kind with a number.
+impl From<u16> for Kind {
+    ghost from_gives = { λ number kind. kind ≡ kind_of number };
+
+    #[tactic(auto, unfolding(crate::specs::Kinds::kind_of))]
+    fn from(number: u16) -> Kind {
+        match number {
+            1 => Kind::Unique,
+            2 => Kind::Shared,
+            3 => Kind::Octets {
+                rtype: Record::A,
+                len: octets::Address::IPV4_OCTETS,
+            },
+            4 => Kind::Octets {
+                rtype: Record::AAAA,
+                len: octets::Address::IPV6_OCTETS,
+            },
+            5 => Kind::Target { rtype: Record::PTR },
+            6 => Kind::Mask,
+            _ => Kind::Unknown,
+        }
+    }
+}
+
+/// The kind with a number.
+// Beside `From`: a public function, which may not change; docs/PROMISES.md names it.
 pub fn kind_of(number: u16) -> Kind
     ensures { result ≡ kind_of number }
 {
-    match number {
-        1 => Kind::Unique,
-        2 => Kind::Shared,
-        3 => Kind::Octets {
-            rtype: Record::A,
-            len: octets::Address::IPV4_OCTETS,
-        },
-        4 => Kind::Octets {
-            rtype: Record::AAAA,
-            len: octets::Address::IPV6_OCTETS,
-        },
-        5 => Kind::Target { rtype: Record::PTR },
-        6 => Kind::Mask,
-        _ => Kind::Unknown,
-    }
+    Kind::from(number)
 }
 
-// The names of a good table, in order: the number of each one's kind, and the offsets from which and up to which its octets stand.
-// Its records begin where its octets end.
+/// An entry of a table: the number of its kind, and its body.
+// The kind stays a number: `Place` keeps it, as `Held` of specs/Check, which may not change.
 #[derive(Clone, Copy)]
-pub struct Table {
-    pub kinds: [u16; Table::NAMES],
-    pub starts: [u16; Table::NAMES],
-    pub ends: [u16; Table::NAMES],
-    pub names: usize,
+struct Entry<'a> {
+    kind: u16,
+    body: &'a [u8],
 }
 
-impl Table {
-    // Octets, names, records of a name, and octets of an entry before its body.
-    pub const OCTETS: usize = 4096;
-
-    pub const NAMES: usize = 8;
-
-    pub const RECORDS: usize = 24;
-
-    pub const HEAD: usize = 4;
-
-    // The mask of interfaces 0 to 3.
-    pub const EVERYWHERE: u8 = 15;
-}
-
-// The length of the entry at the start of s; 0 where none is whole.
-pub(crate) fn whole_length(s: &[u8]) -> usize
-    ensures { result ≡ whole_length s.now }
-{
-    if s.len() < Table::HEAD {
-        return 0;
+impl<'a> Entry<'a> {
+    /// The entry at the start of some octets, and the octets after it; none if it is not whole.
+    #[tactic(auto, unfolding(crate::specs::Check::first_entry, crate::specs::Check::is_whole))]
+    pub(crate) fn split_first(octets: &'a [u8]) -> Option<(Entry<'a>, &'a [u8])>
+        ensures { option_map (λ found. cut found.0 found.1.now) result ≡ first_entry octets.now }
+    {
+        let [a, b, c, d, tail @ ..] = octets else {
+            return None;
+        };
+        let len = usize::from(u16::from_le_bytes([*a, *b])).checked_sub(Table::HEAD)?;
+        let (body, rest) = tail.split_at_checked(len)?;
+        let kind = u16::from_le_bytes([*c, *d]);
+        Some((Entry { kind, body }, rest))
     }
-    let len = octets::little(s, 0) as usize;
-    if len < Table::HEAD {
-        return 0;
-    }
-    if len <= s.len() { len } else { 0 }
 }
 
-// Whether a name without pointers fills a body.
+/// Whether a name without pointers fills a body.
+#[tactic(auto, unfolding(crate::specs::Check::name_fills))]
 fn name_fills(body: &[u8]) -> bool
     ensures { result ≡ name_fills body.now }
 {
-    let read = names::read_name(body, 0);
-    let names::NameRead::Good(n) = read else {
-        return false;
-    };
-    if n.len == body.len() { true } else { false }
+    names::read_name(body, 0).is_some_and(|name| name.len == body.len())
 }
 
-fn has_length(body: &[u8], n: usize) -> bool
-    ensures { result ≡ eqb (length body.now) n }
-{
-    if body.len() == n { true } else { false }
-}
-
-// An entry that keeps the rules for its form, or not. That a name is new is another rule.
-#[derive(Clone, Copy)]
+/// What an entry that keeps the rules for its form adds to a table. Whether a name is new is looked
+/// at later.
+#[derive(Clone, Copy, PartialEq, Eq, Debug)]
 pub enum Form {
     Name,
     Record,
     Mask,
-    Bad,
 }
 
-fn name_form(names: usize, body: &[u8]) -> Form
+// Tried: `then_some` in this and the next two is slower than `if`, by 8 of 100 instructions of a
+// table's check.
+/// The form of a name's entry: a name that is not the root fills the body, and there is room for
+/// one more.
+#[tactic(auto, unfolding(crate::specs::Check::name_form))]
+fn name_form(names: usize, body: &[u8]) -> Option<Form>
     ensures { result ≡ name_form names body.now }
 {
-    if name_fills(body) {
-        if body.len() <= 1 {
-            return Form::Bad;
-        }
-        if Table::NAMES <= names {
-            return Form::Bad;
-        }
-        return Form::Name;
+    if name_fills(body) && body.len() > 1 && names < Table::NAMES {
+        Some(Form::Name)
+    } else {
+        None
     }
-    Form::Bad
 }
 
-fn record_form(names: usize, records: usize, body: bool) -> Form
+/// The form of a record's entry, where its body is in form: a name stands before it that has room
+/// for one more.
+#[tactic(auto, unfolding(crate::specs::Check::record_form))]
+fn record_form(names: usize, records: usize, body: bool) -> Option<Form>
     ensures { result ≡ record_form names records body }
 {
-    if body {
-        if names == 0 {
-            return Form::Bad;
-        }
-        if Table::RECORDS <= records {
-            return Form::Bad;
-        }
-        return Form::Record;
+    if body && names != 0 && records < Table::RECORDS {
+        Some(Form::Record)
+    } else {
+        None
     }
-    Form::Bad
 }
 
-// Whether a table may hold a mask: it is neither 0 nor above 15.
+/// Whether a table may hold a mask: it is neither 0 nor above 15.
+#[tactic(auto, unfolding(crate::specs::Masks::is_mask))]
 fn is_mask(mask: u8) -> bool
     ensures { result ≡ is_mask mask }
 {
-    if 1 <= mask {
-        mask <= Table::EVERYWHERE
-    } else {
-        false
-    }
+    (1..=Table::EVERYWHERE).contains(&mask)
 }
 
-fn mask_form(names: usize, body: &[u8]) -> Form
+/// The form of a mask's entry: a name stands before it, and its body is one octet, which is a mask.
+#[tactic(auto, unfolding(crate::specs::Check::mask_form, crate::specs::Check::mask_fits))]
+fn mask_form(names: usize, body: &[u8]) -> Option<Form>
     ensures { result ≡ mask_form names body.now }
 {
-    if 0 < names {
-        if body.len() == 1 {
-            if is_mask(octets::octet(body, 0)) {
-                return Form::Mask;
-            }
-        }
+    if names > 0 && matches!(body, [mask] if is_mask(*mask)) {
+        Some(Form::Mask)
+    } else {
+        None
     }
-    Form::Bad
 }
 
-// The form of an entry of some kind, after so many names and so many records of the last one.
-fn form_by(kind: Kind, names: usize, records: usize, body: &[u8]) -> Form
+/// The form of an entry of some kind, after so many names and so many records of the last one.
+#[tactic(auto, unfolding(crate::specs::Check::form_by))]
+fn form_by(kind: Kind, names: usize, records: usize, body: &[u8]) -> Option<Form>
     ensures { result ≡ form_by kind names records body.now }
 {
     match kind {
-        Kind::Unique => name_form(names, body),
-        Kind::Shared => name_form(names, body),
-        Kind::Octets { rtype: _, len } => record_form(names, records, has_length(body, len)),
-        Kind::Target { rtype: _ } => record_form(names, records, name_fills(body)),
+        Kind::Unique | Kind::Shared => name_form(names, body),
+        Kind::Octets { len, .. } => record_form(names, records, body.len() == len),
+        Kind::Target { .. } => record_form(names, records, name_fills(body)),
         Kind::Mask => mask_form(names, body),
-        Kind::Unknown => Form::Bad,
+        Kind::Unknown => None,
     }
 }
 
-// The number of a name, or none.
-#[derive(Clone, Copy)]
-pub enum Found {
-    At(usize),
-    Nothing,
-}
-
-// A name by its number: its kind, and the offsets from which and up to which its octets stand.
-#[derive(Clone, Copy)]
+/// A name by its number: its kind, and the offsets of the table from which and up to which its
+/// octets stand. Its records begin where its octets end.
+// Two offsets, and no range: `name_of` of specs/Shown says them so; a slice would borrow the
+// table, and is no plainer.
+#[derive(Clone, Copy, PartialEq, Eq, Debug)]
 pub struct Named {
     pub kind: Kind,
     pub start: usize,
     pub end: usize,
 }
 
-#[derive(Clone, Copy)]
-pub enum NameFound {
-    At(Named),
-    Nothing,
+/// A name as a table keeps it: the number of its kind, and the offsets from which and up to which
+/// its octets stand.
+// The kind stays a number: `Held` of specs/Check has it, and `Kind::Unknown` would not give it back.
+#[derive(Clone, Copy, PartialEq, Eq, Debug)]
+pub struct Place {
+    pub kind: u16,
+    pub start: u16,
+    pub end: u16,
 }
 
-// What reading a table gives: its names; or, if it is not good, the offset of the first entry that breaks a rule. A good table gives
-// the offset 0, a bad one no names.
-#[derive(Clone, Copy)]
-pub struct TableRead {
-    pub good: bool,
-    pub at: usize,
-    pub table: Table,
-}
+impl Place {
+    // The place of no name.
+    const NONE: Place = Place {
+        kind: 0,
+        start: 0,
+        end: 0,
+    };
 
-fn wide(offset: u16) -> usize
-    ensures { result ≡ offset }
-{
-    offset as usize
-}
-
-// The number of the first of some names that equals a given one.
-fn find_among<'a>(
-    table: &[u8],
-    starts: &'a [u16; Table::NAMES],
-    ends: &'a [u16; Table::NAMES],
-    names: usize,
-    name: &[u8],
-) -> Found
-    requires { names ≤ most_names }
-    ensures { (kinds : List ℕ) → result ≡ find_name (held_from names table.now kinds starts.now ends.now 0) name.now }
-{
-    let mut i = 0;
-    while i < names {
-        let a = wide(starts[i]);
-        let e = wide(ends[i]);
-        if names::same_name(octets::part(table, a, e), name) {
-            return Found::At(i);
-        }
-        i = i + 1;
+    /// The octets of the name, in the table.
+    fn octets<'a>(&self, table: &'a [u8]) -> &'a [u8]
+        ensures { result.now ≡ part_of table.now self.now.start self.now.end }
+    {
+        octets::part(table, usize::from(self.start), usize::from(self.end))
     }
-    Found::Nothing
+}
+
+/// A table that is not good: the offset of the first entry that breaks a rule.
+#[derive(Clone, Copy, PartialEq, Eq, Debug)]
+pub struct BadTable {
+    pub at: usize,
+}
+
+impl fmt::Display for BadTable {
+    ghost use Rattle.std.specs.Prelude.{Some};
+    ghost use Rattle.refusal.specs.Texts.{text_of};
+    ghost use Rattle.refusal.specs.declared.Refusal.TheVariants.{Table as TableRefusal};
+
+    // A bad table says what the refusal for it says.
+    ghost output = { λ bad. Some (text_of (TableRefusal bad.at)) };
+
+    fn fmt<W: fmt::Write>(&self, f: &mut fmt::Formatter<W>) -> fmt::Result {
+        write!(f, "the table is bad at octet {}", self.at)
+    }
+}
+
+impl Error for BadTable {}
+
+impl From<BadTable> for Refusal {
+    ghost use Rattle.refusal.specs.declared.Refusal.TheVariants.{Table as TableRefusal};
+
+    ghost from_gives = { λ bad refusal. refusal ≡ TableRefusal bad.at };
+
+    fn from(bad: BadTable) -> Refusal {
+        Refusal::Table { at: bad.at }
+    }
+}
+
+/// The number of the first of some names that equals a given one.
+fn find_among(places: &[Place], table: &[u8], name: &[u8]) -> Option<usize>
+    ensures { result ≡ position (is_place table.now name.now) places.now }
+{
+    places
+        .iter()
+        .position(|place| names::same_name(place.octets(table), name))
+}
+
+/// The names of a good table, in order: so many of the places count. A number above the most counts
+/// as the most.
+// An array with a count beside it, and no vector of fixed capacity: `Table::find` and `Table::name`
+// promise an answer for every value, also where more names are said to be there than can be.
+#[derive(Clone, Copy, PartialEq, Eq, Debug)]
+pub struct Table {
+    pub places: [Place; Table::NAMES],
+    pub names: usize,
 }
 
 impl Table {
-    fn fresh() -> Self
-        ensures { result ≡ empty }
-    {
-        Table {
-            kinds: [0; Table::NAMES],
-            starts: [0; Table::NAMES],
-            ends: [0; Table::NAMES],
-            names: 0,
-        }
-    }
+    /// The most octets of a table.
+    pub const OCTETS: usize = 4096;
 
-    // So many names; a number above the most counts as the most.
+    /// The most names of a table.
+    pub const NAMES: usize = 8;
+
+    /// The most records of a name.
+    pub const RECORDS: usize = 24;
+
+    /// Octets of an entry before its body.
+    pub const HEAD: usize = 4;
+
+    /// The mask of interfaces 0 to 3.
+    pub const EVERYWHERE: u8 = 15;
+
+    /// So many names; a number above the most counts as the most.
     pub fn count(names: usize) -> usize
         ensures { result ≡ min names most_names }
     {
-        if names < Table::NAMES {
-            names
-        } else {
-            Table::NAMES
-        }
+        names.min(Table::NAMES)
     }
 
-    // The number of the name that equals a given one.
-    pub fn find(self, table: &[u8], name: &[u8]) -> Found
-        ensures { result ≡ find_name (names_of table.now self) name.now }
+    // The places that count.
+    fn held(&self) -> &[Place]
+        ensures { result.now ≡ places_of self.now }
     {
-        let n = Table::count(self.names);
-        find_among(table, &self.starts, &self.ends, n, name)
+        &self.places[..Table::count(self.names)]
     }
 
-    // The name with a number.
-    pub fn name(self, k: usize) -> NameFound
-        ensures { result ≡ name_of self k }
+    /// How many names there are, at most 8.
+    pub fn len(&self) -> usize
+        ensures value { result ≡ count_of self.now }
+        ensures fits { result ≤ most_names }
     {
-        if Table::count(self.names) <= k {
-            return NameFound::Nothing;
-        }
-        let kind = kind_of(self.kinds[k]);
-        NameFound::At(Named {
-            kind: kind,
-            start: self.starts[k] as usize,
-            end: self.ends[k] as usize,
+        Table::count(self.names)
+    }
+
+    /// The number of the name that equals a given one.
+    pub fn find(&self, octets: &[u8], name: &[u8]) -> Option<usize>
+        ensures { result ≡ find_name (names_of octets.now self.now) name.now }
+    {
+        find_among(self.held(), octets, name)
+    }
+
+    /// The name with a number; none from the number of names on.
+    #[tactic(auto, unfolding(crate::specs::Shown::name_of))]
+    pub fn name(&self, k: usize) -> Option<Named>
+        ensures { result ≡ name_of self.now k }
+    {
+        let place = self.held().get(k)?;
+        Some(Named {
+            kind: Kind::from(place.kind),
+            start: usize::from(place.start),
+            end: usize::from(place.end),
         })
     }
 
-    fn given(good: bool, at: usize, table: Table) -> TableRead
-        ensures { result ≡ record { good = good; at = at; table = table } }
+    /// Checks a table and finds its names, in one pass.
+    ///
+    /// # Errors
+    ///
+    /// The offset of the first entry that breaks a rule; 4,096 for a table of more octets than
+    /// that.
+    pub fn read(octets: &[u8]) -> Result<Table, BadTable>
+        ensures { result ≡ table_read octets.now }
     {
-        TableRead {
-            good: good,
-            at: at,
-            table: table,
+        if Table::OCTETS < octets.len() {
+            return Err(BadTable { at: Table::OCTETS });
         }
-    }
-
-    fn refused(at: usize) -> TableRead
-        ensures { result ≡ record { good = false; at = at; table = empty } }
-    {
-        Table::given(false, at, Table::fresh())
-    }
-
-    // Takes the entries of a table in order, up to one that breaks a rule: the names before that one are left in the table given.
-    fn scan(table: &[u8]) -> TableRead
-        requires { length table.now ≤ longest_table }
-        ensures { settled result ≡ table_read table.now }
-    {
-        let mut t = Table::fresh();
+        let mut table = Table {
+            places: [Place::NONE; Table::NAMES],
+            names: 0,
+        };
         let mut records: usize = 0;
-        let mut at: usize = 0;
-        while at < table.len() {
-            let rest = octets::part(table, at, table.len());
-            let len = whole_length(rest);
-            if len == 0 {
-                break;
-            }
-            let kind = octets::little(rest, 2);
-            let body = octets::part(rest, Table::HEAD, len);
-            let form = form_by(kind_of(kind), t.names, records, body);
+        let mut rest = octets;
+        // A while loop: what is left after an entry goes by its length, and each bad exit tells where
+        // it began, so no iterator is plainer.
+        while !rest.is_empty() {
+            let at = octets.len() - rest.len();
+            let bad = BadTable { at };
+            let Some((entry, others)) = Entry::split_first(rest) else {
+                return Err(bad);
+            };
+            let end = octets.len() - others.len();
+            let Some(form) = form_by(Kind::from(entry.kind), table.names, records, entry.body)
+            else {
+                return Err(bad);
+            };
             match form {
                 Form::Name => {
-                    let n = t.names;
-                    t.kinds[n] = kind;
-                    t.starts[n] = (at + Table::HEAD) as u16;
-                    t.ends[n] = (at + len) as u16;
-                    let found = find_among(table, &t.starts, &t.ends, n, body);
-                    if let Found::At(_) = found {
-                        break;
+                    if table.find(octets, entry.body).is_some() {
+                        return Err(bad);
                     }
-                    t.names = n + 1;
+                    table.places[table.names] = Place {
+                        kind: entry.kind,
+                        start: (at + Table::HEAD) as u16,
+                        end: end as u16,
+                    };
+                    table.names += 1;
                     records = 0;
                 }
-                Form::Record => records = records + 1,
+                Form::Record => records += 1,
                 Form::Mask => {}
-                Form::Bad => break,
             }
-            at = at + len;
+            rest = others;
         }
-        Table::given(at == table.len(), at, t)
-    }
-
-    // Checks a table and finds its names, in one pass.
-    pub fn read(table: &[u8]) -> TableRead
-        ensures { result ≡ table_read table.now }
-    {
-        if Table::OCTETS < table.len() {
-            return Table::refused(Table::OCTETS);
-        }
-        let mut r = Table::scan(table);
-        if r.good {
-            r.at = 0;
-        } else {
-            r.table = Table::fresh();
-        }
-        r
+        Ok(table)
     }
 }
 
-// A record at an offset of a table; or the mask of the records after it, and where they begin; or neither: a name stands there, or the
-// table ends.
-#[derive(Clone, Copy)]
+/// A record at an offset of a table; or the mask of the records after it, and where they begin; or
+/// neither: a name stands there, or the table ends.
+// No Option: `record_at` of specs/Records tells the three apart.
+#[derive(Clone, Copy, PartialEq, Eq, Debug)]
 pub enum RecordRead {
     Good(Record),
     Mask { mask: u8, end: usize },

@@ -1,12 +1,6 @@
 -- Equality of two names in records: what it means in plain words, that it is symmetric and transitive, and that without pointers it is the
 -- equality of the octets where they stand.
-use Prim.Native.Nat.{ℕ, ◌+◌, ◌-◌, ◌≤◌}
-use mathlib.Core.Path.{◌≡◌, refl, sym, ap, ◌∙◌}
-use mathlib.Core.List.{List, map}
-use mathlib.Core.Bool.{Bool, true, false}
-use mathlib.Core.Logic.{◌↔◌}
-use native.Mathlib.Omega.{arith}
-use lib.ListN.{length, take, drop}
+use Rattle.std.proofs.Common.{None, Option, Some, ℕ, ◌+◌, ◌-◌, ◌≤◌, ◌≡◌, refl, sym, ap, ◌∙◌, List, map, Bool, true, false, ◌↔◌, arith, length, take, drop}
 use Rattle.octets.specs.Octets.{Octets, part_of}
 use Rattle.octets.proofs.Octets.{part_in}
 use Rattle.octets.proofs.Tests.{both_is, cond_same, never, not_is}
@@ -14,8 +8,6 @@ use Rattle.names.specs.Names.{Labels, encode, NameAt}
 use Rattle.names.specs.Folding.{folded, same_name}
 use Rattle.names.specs.Readings.{labels}
 use Rattle.names.specs.declared.RecordName.{RecordName}
-use Rattle.names.specs.declared.RecordNameRead.{RecordNameRead}
-use Rattle.names.specs.declared.RecordNameRead.TheVariants.{Good, Bad}
 use Rattle.names.specs.RecordNameWalk.{record_name_at, expanded_at}
 use Rattle.names.specs.Comparison.{is_good, same_record_name, SameNames}
 use Rattle.names.proofs.Names.{name_inside}
@@ -25,22 +17,22 @@ use Rattle.names.proofs.Readings.{reads_a_reading, expands, reading_is_name}
 use Rattle.names.proofs.Plain.{plain_reading, reading_labels, plain_is_packed}
 
 -- Two names that can be read are equal exactly if their expanded names are; one that cannot equals nothing.
-pub same_read : (s : List ℕ) (p : ℕ) (t : List ℕ) (q : ℕ) (r u : RecordName) → record_name_at s p ≡ Good r → record_name_at t q ≡ Good u
+pub same_read : (s : List ℕ) (p : ℕ) (t : List ℕ) (q : ℕ) (r u : RecordName) → record_name_at s p ≡ Some r → record_name_at t q ≡ Some u
     → same_record_name s p t q ≡ same_name (expanded_at s p) (expanded_at t q)
 unfolding same_record_name
 same_read s p t q r u e f = rw (e, f)
 
-pub first_bad : (s : List ℕ) (p : ℕ) (t : List ℕ) (q : ℕ) → record_name_at s p ≡ Bad → same_record_name s p t q ≡ false
+pub first_bad : (s : List ℕ) (p : ℕ) (t : List ℕ) (q : ℕ) → record_name_at s p ≡ None → same_record_name s p t q ≡ false
 unfolding same_record_name
 first_bad s p t q e = rw e
 
-pub second_bad : (s : List ℕ) (p : ℕ) (t : List ℕ) (q : ℕ) → record_name_at t q ≡ Bad → same_record_name s p t q ≡ false
+pub second_bad : (s : List ℕ) (p : ℕ) (t : List ℕ) (q : ℕ) → record_name_at t q ≡ None → same_record_name s p t q ≡ false
 unfolding same_record_name
 second_bad s p t q e = rw e (cond_same (is_good (record_name_at s p)) false)
 
-good_one : (x : RecordNameRead) → is_good x ≡ true → (r : RecordName) × (x ≡ Good r)
-good_one (Good r) e = (r, refl)
-good_one Bad e = never e refl
+good_one : (x : Option RecordName) → is_good x ≡ true → (r : RecordName) × (x ≡ Some r)
+good_one (Some r) e = (r, refl)
+good_one None e = never e refl
 
 -- both can be read, and the folded octets of their expanded names are equal
 record Same (s : List ℕ) (p : ℕ) (t : List ℕ) (q : ℕ) : Type 0 where
@@ -95,7 +87,7 @@ transitive s p t q u k e f =
 
 module _ (s : List ℕ) (p : ℕ) (t : List ℕ) (q : ℕ) where
   -- Equal names have expanded names of one length.
-  pub same_record_lengths : (r u : RecordName) → record_name_at s p ≡ Good r → record_name_at t q ≡ Good u → same_record_name s p t q ≡ true → r.len ≡ u.len
+  pub same_record_lengths : (r u : RecordName) → record_name_at s p ≡ Some r → record_name_at t q ≡ Some u → same_record_name s p t q ≡ true → r.len ≡ u.len
   same_record_lengths r u e f h =
       sym (expanded_length s p r e)
       ∙ same_lengths (expanded_at s p) (expanded_at t q) (sym (same_read s p t q r u e f) ∙ h)

@@ -1,8 +1,5 @@
 -- Equality of names in records, by computation: two small messages, each with 12 octets of header.
-use Prim.Native.Nat.{ℕ}
-use mathlib.Core.Path.{◌≡◌, refl}
-use mathlib.Core.List.{List, [], ◌∷◌, ◌++◌}
-use mathlib.Core.Bool.{Bool, true, false}
+use Rattle.std.proofs.Common.{ℕ, ◌≡◌, refl, List, [], ◌∷◌, ◌++◌, Bool, true, false}
 use Rattle.octets.specs.Octets.{part_of}
 use Rattle.names.specs.Folding.{folded, same_name}
 use Rattle.names.specs.RecordNameWalk.{turn_at, record_name_from, expanded_from, expanded_at}

@@ -1,20 +1,14 @@
 -- How deep a name can be: at most 127 labels and 16 pointers, and so at most 144 turns of its reader.
-use Prim.Native.Nat.{ℕ, suc, zero, ◌+◌, ◌≤◌}
-use mathlib.Core.Path.{◌≡◌, refl, sym, ap, ◌∙◌}
-use mathlib.Core.List.{List}
-use native.Mathlib.Omega.{arith}
-use lib.ListN.{length}
+use Rattle.std.proofs.Common.{Some, ℕ, suc, zero, ◌+◌, ◌≤◌, ◌≡◌, refl, sym, ap, ◌∙◌, List, arith, length}
 use Rattle.octets.specs.Octets.{Octets, octet_at}
 use Rattle.names.specs.Bounds.{longest_name, most_labels}
 use Rattle.names.specs.Names.{Labels, IsName, encode}
 use Rattle.names.specs.Readings.{labels, ReadingAt}
 use Rattle.names.specs.declared.Name.{Name}
-use Rattle.names.specs.declared.NameRead.TheVariants.{Good as GoodName}
 use Rattle.names.specs.declared.Walk.{Walk}
 use Rattle.names.specs.declared.Turn.{Turn}
 use Rattle.names.specs.declared.Turn.TheVariants.{More, End, Wrong}
 use Rattle.names.specs.declared.RecordName.{RecordName}
-use Rattle.names.specs.declared.RecordNameRead.TheVariants.{Good}
 use Rattle.names.specs.NameWalk.{name_from, name_at}
 use Rattle.names.specs.RecordNameWalk.{target, at_root, past_label, followed, turn_at, record_name_from, walk_at, turns, record_name_at, expanded_from, expanded_at}
 use Rattle.names.specs.Depth.{NameDepth, Depth, turns_after, turns_from, most_turns}
@@ -28,11 +22,11 @@ depth_of : (len count : ℕ) → count + count + 1 ≤ len → len ≤ longest_n
 depth_of len count h g = record { octets = omega arith; short = g; few = omega arith }
 
 -- Any name without pointers that can be read has at most 127 labels.
-pub name_depth : (s : List ℕ) (at : ℕ) (r : Name) → name_at s at ≡ GoodName r → NameDepth r.len r.labels
+pub name_depth : (s : List ℕ) (at : ℕ) (r : Name) → name_at s at ≡ Some r → NameDepth r.len r.labels
 name_depth s at r e = depth_of r.len r.labels (name_counted s at r e) (name_fits s at r e).0
 
 -- Any record's name that can be read has at most 127 labels and 16 pointers,
-pub depth : (s : List ℕ) (at : ℕ) (r : RecordName) → record_name_at s at ≡ Good r → Depth r
+pub depth : (s : List ℕ) (at : ℕ) (r : RecordName) → record_name_at s at ≡ Some r → Depth r
 depth s at r e =
     let f = record_name_fits s at r e in
     record { name = depth_of r.len r.labels f.counted f.short; few_pointers = f.few }
@@ -46,7 +40,7 @@ reading_depth s at r f =
     record { name = depth_of r.len r.labels h f.short; few_pointers = f.few }
 
 -- The labels are as many as those of the name to which it expands.
-pub expanded_labels : (s : List ℕ) (at : ℕ) (r : RecordName) (n : Labels) → Octets s → record_name_at s at ≡ Good r → IsName n
+pub expanded_labels : (s : List ℕ) (at : ℕ) (r : RecordName) (n : Labels) → Octets s → record_name_at s at ≡ Some r → IsName n
     → expanded_at s at ≡ encode n → r.labels ≡ length n
 expanded_labels s at r n o e h g =
     let f = (reads_a_reading s at r o).0 e in
@@ -100,19 +94,19 @@ pub enough_name : (k : ℕ) (s : List ℕ) (at : ℕ) → most_labels + 1 ≤ k 
 enough_name k s at h = name_fuel k longest_name s at 0 (omega arith) (omega arith) (omega arith)
 
 -- from a walk on: its labels, its pointers and the last turn
-turns_from_lem : (k : ℕ) (s : List ℕ) (w : Walk) (r : RecordName) → record_name_from k s w ≡ Good r
+turns_from_lem : (k : ℕ) (s : List ℕ) (w : Walk) (r : RecordName) → record_name_from k s w ≡ Some r
     → w.pointers + turns_from k s w ≡ r.labels + r.pointers + 1
 unfolding record_name_from turns_from
 turns_from_lem zero s w r e = absurd (let z : ◌≡◌ {A = ℕ} 0 1 = cc in omega arith)
 turns_from_lem (suc k) s w r e = go (met s w) (λ v q. turns_from_lem k s v q)
   where
     go : Met s w
-        → ((v : Walk) (q : RecordName) → record_name_from k s v ≡ Good q → v.pointers + turns_from k s v ≡ q.labels + q.pointers + 1)
+        → ((v : Walk) (q : RecordName) → record_name_from k s v ≡ Some q → v.pointers + turns_from k s v ≡ q.labels + q.pointers + 1)
         → w.pointers + turns_from (suc k) s w ≡ r.labels + r.pointers + 1
     go (wrong q) i = absurd (let z : ◌≡◌ {A = ℕ} 0 1 = cc in omega arith)
     go (root h g) i =
         let t = turn_root s w h g in
-        let f : Good (at_root w) ≡ Good r = rw t at e in
+        let f : Some (at_root w) ≡ Some r = rw t at e in
         let q : at_root w ≡ r = cc in
         rw t (omega (arith, ap (λ (x : RecordName). x.labels) q, ap (λ (x : RecordName). x.pointers) q))
     go (one h g u v) i =
@@ -127,6 +121,6 @@ turns_from_lem (suc k) s w r e = go (met s w) (λ v q. turns_from_lem k s v q)
         rw t (omega (arith, i (followed w to) q.fewer q.is, q.labels_are, q.pointers_are, takes_none w to))
 
 -- A good reading takes a turn for each label and each pointer, and the last one.
-pub good_turns : (s : List ℕ) (at : ℕ) (r : RecordName) → record_name_at s at ≡ Good r
+pub good_turns : (s : List ℕ) (at : ℕ) (r : RecordName) → record_name_at s at ≡ Some r
     → turns_from turns s (walk_at at) ≡ r.labels + r.pointers + 1
 good_turns s at r e = omega (arith, turns_from_lem turns s (walk_at at) r e)

@@ -1,10 +1,6 @@
 -- The bounds on deep names are reached, by computation.
-use Prim.Native.Nat.{ℕ, suc, zero, ◌+◌, ◌/◌, ◌%◌}
-use mathlib.Core.Path.{◌≡◌, refl}
-use mathlib.Core.List.{List, [], ◌∷◌}
+use Rattle.std.proofs.Common.{Some, ℕ, suc, zero, ◌+◌, ◌/◌, ◌%◌, ◌≡◌, refl, List, [], ◌∷◌}
 use Rattle.names.specs.Bounds.{longest_name, most_labels, most_pointers}
-use Rattle.names.specs.declared.NameRead.TheVariants.{Good as GoodName}
-use Rattle.names.specs.declared.RecordNameRead.TheVariants.{Good}
 use Rattle.names.specs.NameWalk.{name_from, name_at}
 use Rattle.names.specs.RecordNameWalk.{turn_at, record_name_from, walk_at, turns, record_name_at}
 use Rattle.names.specs.Depth.{turns_from, most_turns}
@@ -25,10 +21,10 @@ message = 0 ∷ 0 ∷ 0 ∷ 0 ∷ 0 ∷ 0 ∷ 0 ∷ 0 ∷ 0 ∷ 0 ∷ 0 ∷ 0 �
 
 pub record Reached : Type 0 where
   -- 127 labels, without pointers, for both readers
-  pub name : name_at message 12 ≡ GoodName (record { len = longest_name; labels = most_labels })
-  pub labels : record_name_at message 12 ≡ Good (record { next = 267; len = 255; pointers = 0; labels = most_labels })
+  pub name : name_at message 12 ≡ Some (record { len = longest_name; labels = most_labels })
+  pub labels : record_name_at message 12 ≡ Some (record { next = 267; len = 255; pointers = 0; labels = most_labels })
   -- 127 labels behind 16 pointers, in 144 turns
-  pub deepest : record_name_at message 297 ≡ Good (record { next = 299; len = 255; pointers = most_pointers; labels = most_labels })
+  pub deepest : record_name_at message 297 ≡ Some (record { next = 299; len = 255; pointers = most_pointers; labels = most_labels })
   pub turns_taken : turns_from turns message (walk_at 297) ≡ most_turns
 
 pub reached : Reached

@@ -1,20 +1,15 @@
 -- Equality of names: what is folded, and that two names are equal exactly if their folded lists of labels are.
-use Prim.Native.Nat.{ℕ, ◌+◌, ◌<◌, ◌≤◌}
-use mathlib.Core.Path.{◌≡◌, refl, sym, ap, ◌∙◌}
-use mathlib.Core.List.{List, [], ◌∷◌, ◌++◌, map, map-append}
-use mathlib.Core.Bool.{true, false}
+use Rattle.std.proofs.Common.{ℕ, ◌+◌, ◌<◌, ◌≤◌, ◌≡◌, refl, sym, ap, ◌∙◌, List, [], ◌∷◌, ◌++◌, map, Bool, true, false, ◌↔◌, ◌⊎◌, inl, inr, arith, leb, eqb, length, eq-eqb, eqb-true, le-leb, leb-true, leb-false}
+use Rattle.std.proofs.lemmas.List.{map-append, length-map}
+use Rattle.std.proofs.lemmas.Bool.{lt-leb}
 use mathlib.Core.Logic.Iff
-use mathlib.Core.Logic.{◌↔◌, ◌⊎◌, inl, inr}
-use native.Mathlib.Omega.{arith}
-use lib.Dec.{leb}
-use lib.ListN.{length, drop, length-map, drop_of_length-le}
-use borrow.Author.Tests.{eq-eqb, ne_eqb, le-leb, lt-leb, leb-true, leb-false}
-use Rattle.octets.specs.Octets.{Octets, octet_at}
+use Rattle.std.specs.List.{fold, list_all, zip}
+use Rattle.octets.specs.Octets.{Octets}
+use Rattle.octets.specs.Tests.{◌and◌}
 use Rattle.octets.proofs.Octets.{joined}
-use Rattle.octets.proofs.Tests.{split, both, same_number}
+use Rattle.octets.proofs.Tests.{split, itself, both, same_number}
 use Rattle.names.specs.Names.{Labels, AreLabels, encode, IsName}
-use Rattle.names.specs.Folding.{folded, folded_name, same_name}
-use Rattle.names.proofs.Lists.{from_here}
+use Rattle.names.specs.Folding.{folded, folded_name, same_name, alike, alike_octets}
 use Rattle.names.proofs.Names.{same_labels}
 
 -- The letters A to Z.
@@ -140,17 +135,25 @@ pub letter_a : same_name (65 ∷ []) (97 ∷ []) ≡ true
 unfolding same_name folded
 letter_a = refl
 
--- A turn of the loop that compares, and its end.
-module _ (a b : List ℕ) (i : ℕ) (h : i < length a) (k : i < length b) where
-  pub same_on : folded (octet_at a i) ≡ folded (octet_at b i)
-      → same_name (drop i a) (drop i b) ≡ same_name (drop (i + 1) a) (drop (i + 1) b)
-  unfolding same_name
-  same_on e = rw (from_here a i h, from_here b i k, eq-eqb _ _ e)
-
-  pub same_off : (folded (octet_at a i) ≡ folded (octet_at b i) → ⊥) → same_name (drop i a) (drop i b) ≡ false
-  unfolding same_name
-  same_off e = rw (from_here a i h, from_here b i k, ne_eqb _ _ e)
-
-pub same_end : (a b : List ℕ) (i : ℕ) → length a ≤ i → length b ≤ i → same_name (drop i a) (drop i b) ≡ true
+-- Octets taken side by side, of lists of one length, are compared as the lists are.
+pub alike_zip : (same : Bool) (a b : List ℕ) → length a ≡ length b → fold alike same (zip a b) ≡ (same and same_name a b)
 unfolding same_name
-same_end a b i h k = rw (drop_of_length-le a h, drop_of_length-le b k)
+alike_zip same [] [] e = itself same
+alike_zip same [] (y ∷ b) e = absurd (omega arith)
+alike_zip same (x ∷ a) [] e = absurd (omega arith)
+alike_zip true (x ∷ a) (y ∷ b) e = let n : length a ≡ length b = omega arith in alike_zip (eqb (folded x) (folded y)) a b n
+alike_zip false (x ∷ a) (y ∷ b) e = let n : length a ≡ length b = omega arith in alike_zip false a b n
+
+pub alike_all : (a b : List ℕ) → length a ≡ length b → list_all alike_octets (zip a b) ≡ same_name a b
+unfolding same_name
+alike_all [] [] e = refl
+alike_all [] (y ∷ b) e = absurd (omega arith)
+alike_all (x ∷ a) [] e = absurd (omega arith)
+alike_all (x ∷ a) (y ∷ b) e =
+    let n : length a ≡ length b = omega arith in
+    split
+    (eqb x y)
+    (λ f. rw (f, alike_all a b n, eq-eqb _ _ (ap folded (eqb-true x y f))))
+    (λ f. split (eqb (folded x) (folded y)) (λ g. rw (f, alike_all a b n, g)) (λ g. rw (f, g)))
+
+pub ruleset beside = (unequal_lengths, alike_zip, alike_all)

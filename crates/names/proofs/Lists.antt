@@ -1,12 +1,5 @@
 -- What stands in a list at an offset.
-use Prim.Native.Nat.{ℕ, suc, ◌+◌, ◌-◌, ◌<◌}
-use mathlib.Core.Path.{◌≡◌, refl, sym, ap, ◌∙◌}
-use mathlib.Core.List.{List, ◌∷◌, ◌++◌}
-use native.Mathlib.Omega.{arith}
-use native.Mathlib.Nat.{add-zero}
-use native.Mathlib.Numerals.{add-one}
-use lib.ListN.{length, get_or, take, drop, length-drop, take-append-drop}
-use lib.Seq.{take_at, drop_at, drop-drop, drop-cons, get_or-drop}
+use Rattle.std.proofs.Common.{ℕ, suc, ◌+◌, ◌-◌, ◌<◌, ◌≡◌, refl, sym, ap, ◌∙◌, List, ◌∷◌, ◌++◌, arith, add-zero, add-one, length, get_or, take, drop, length-drop, take-append-drop, take_at, drop_at, drop-drop, drop-cons, get_or-drop}
 use Rattle.names.specs.Names.{Stand}
 
 -- what stands at an offset, and the rest

@@ -1,44 +1,37 @@
 -- Laws of the walk over a name without pointers: a turn for each thing that can stand at an offset, and its fuel.
-use Prim.Native.Nat.{ℕ, suc, zero, ◌+◌, ◌-◌, ◌<◌, ◌≤◌}
-use mathlib.Core.Path.{◌≡◌, refl, sym, ap, ◌∙◌}
-use mathlib.Core.List.{List}
-use native.Mathlib.Omega.{arith}
-use lib.Dec.{ltb, leb, eqb}
-use lib.ListN.{length}
-use borrow.Author.Tests.{eq-eqb, ne_eqb, lt-ltb, le-ltb, le-leb, lt-leb, eqb-true, eqb-false, ltb-true, ltb-false, leb-true, leb-false}
+use Rattle.std.proofs.Common.{None, Option, Some, ℕ, suc, zero, ◌+◌, ◌-◌, ◌<◌, ◌≤◌, ◌≡◌, refl, sym, ap, ◌∙◌, List, arith, ltb, leb, eqb, length, eq-eqb, ne_eqb, lt-ltb, le-ltb, le-leb, eqb-true, ltb-true, ltb-false, leb-true, leb-false}
+use Rattle.std.proofs.lemmas.Bool.{lt-leb, eqb-false}
 use Rattle.octets.specs.Octets.{octet_at}
 use Rattle.octets.proofs.Tests.{split}
 use Rattle.names.specs.Bounds.{longest_label, longest_name}
 use Rattle.names.specs.declared.Name.{Name}
-use Rattle.names.specs.declared.NameRead.{NameRead}
-use Rattle.names.specs.declared.NameRead.TheVariants.{Good, Bad}
 use Rattle.names.specs.NameWalk.{more_labels, name_turn, name_from, name_at}
 
 -- labels more, and more again
-pub more_none : (x : NameRead) → more_labels 0 x ≡ x
-more_none (Good r) =
+pub more_none : (x : Option Name) → more_labels 0 x ≡ x
+more_none (Some r) =
     let z : 0 + r.labels ≡ r.labels = omega arith in
-    ap (λ (k : ℕ). Good (record { len = r.len; labels = k })) z
-more_none Bad = refl
+    ap (λ (k : ℕ). Some (record { len = r.len; labels = k })) z
+more_none None = refl
 
-more_again : (l m : ℕ) (x : NameRead) → more_labels l (more_labels m x) ≡ more_labels (l + m) x
-more_again l m (Good r) =
+more_again : (l m : ℕ) (x : Option Name) → more_labels l (more_labels m x) ≡ more_labels (l + m) x
+more_again l m (Some r) =
     let z : l + (m + r.labels) ≡ l + m + r.labels = omega arith in
-    ap (λ (k : ℕ). Good (record { len = r.len; labels = k })) z
-more_again l m Bad = refl
+    ap (λ (k : ℕ). Some (record { len = r.len; labels = k })) z
+more_again l m None = refl
 
 -- a name that is read with m labels more is read without them
-pub record Without (m : ℕ) (x : NameRead) (r : Name) : Type 0 where
+pub record Without (m : ℕ) (x : Option Name) (r : Name) : Type 0 where
   pub fewer : Name
-  pub is : x ≡ Good fewer
+  pub is : x ≡ Some fewer
   pub len_is : r.len ≡ fewer.len
   pub labels_are : r.labels ≡ m + fewer.labels
 
-pub without : (m : ℕ) (x : NameRead) (r : Name) → more_labels m x ≡ Good r → Without m x r
-without m (Good q) r e =
+pub without : (m : ℕ) (x : Option Name) (r : Name) → more_labels m x ≡ Some r → Without m x r
+without m (Some q) r e =
     let f : ◌≡◌ {A = Name} (record { len = q.len; labels = m + q.labels }) r = cc in
     record { fewer = q; is = refl; len_is = sym (ap (λ (n : Name). n.len) f); labels_are = sym (ap (λ (n : Name). n.labels) f) }
-without m Bad r e = absurd (let z : ◌≡◌ {A = ℕ} 0 1 = cc in omega arith)
+without m None r e = absurd (let z : ◌≡◌ {A = ℕ} 0 1 = cc in omega arith)
 
 -- what stands at p, after n octets of the name
 pub data Place (s : List ℕ) (p n : ℕ) : Type 0 where
@@ -61,22 +54,22 @@ place s p n =
 
 -- the turn at each
 module _ (k : ℕ) (s : List ℕ) (p n : ℕ) where
-  pub at_over : length s ≤ p → name_from (suc k) s p n ≡ Bad
+  pub at_over : length s ≤ p → name_from (suc k) s p n ≡ None
   unfolding name_from
   at_over h = rw (le-leb _ _ h)
 
-  pub at_root_lem : p < length s → octet_at s p ≡ 0 → name_from (suc k) s p n ≡ Good (record { len = n + 1; labels = 0 })
+  pub at_root_lem : p < length s → octet_at s p ≡ 0 → name_from (suc k) s p n ≡ Some (record { len = n + 1; labels = 0 })
   unfolding name_from
   at_root_lem h g = rw (lt-leb _ _ h, eq-eqb _ _ g)
 
-  pub at_none : p < length s → longest_label < octet_at s p → name_from (suc k) s p n ≡ Bad
+  pub at_none : p < length s → longest_label < octet_at s p → name_from (suc k) s p n ≡ None
   unfolding name_from
   at_none h g =
       let z : octet_at s p ≡ 0 → ⊥ = omega arith in
       rw (lt-leb _ _ h, ne_eqb _ _ z, lt-ltb _ _ g)
 
   pub at_long : p < length s → 1 ≤ octet_at s p → octet_at s p ≤ longest_label → longest_name ≤ n + 1 + octet_at s p
-      → name_from (suc k) s p n ≡ Bad
+      → name_from (suc k) s p n ≡ None
   unfolding name_from
   at_long h g i j =
       let z : octet_at s p ≡ 0 → ⊥ = omega arith in
@@ -111,7 +104,7 @@ name_fuel (suc j) (suc k) s p n h a b =
         at_label j s p n e f g i ∙ ap (more_labels 1) (r i (omega arith) (omega arith)) ∙ sym (at_label k s p n e f g i)
 
 -- the walk after n octets, with just enough fuel
-abbrev pub name_here : List ℕ → ℕ → ℕ → NameRead
+abbrev pub name_here : List ℕ → ℕ → ℕ → Option Name
 name_here s p n = name_from (longest_name - n) s p n
 
 -- its turn
@@ -123,18 +116,40 @@ name_turn_lem s p n h = go (longest_name - n - 1) (omega arith)
     go : (m : ℕ) → longest_name - n ≡ suc m → name_from (longest_name - n) s p n ≡ name_turn s p n (name_from m s)
     go m e = rw e
 
--- a label: what is read, with l labels before it, is read with one more
-pub name_counts : (x : NameRead) (s : List ℕ) (p n l : ℕ) → n < longest_name → x ≡ more_labels l (name_here s p n) → p < length s
-    → (octet_at s p ≡ 0 → ⊥) → octet_at s p ≤ longest_label → n + 1 + octet_at s p < longest_name
-    → x ≡ more_labels (l + 1) (name_here s (p + 1 + octet_at s p) (n + 1 + octet_at s p))
-name_counts x s p n l h e f z g i =
-    let q : ℕ = p + 1 + octet_at s p in
-    let m : ℕ = n + 1 + octet_at s p in
-    let t : name_here s p n ≡ more_labels 1 (name_here s q m) =
-    name_turn_lem s p n h
-    ∙ rw (lt-leb _ _ f, ne_eqb _ _ z, le-ltb _ _ g, lt-leb _ _ i)
-    (ap (more_labels 1) (name_fuel (longest_name - n - 1) (longest_name - m) s q m i (omega arith) (omega arith))) in
-    e ∙ ap (more_labels l) t ∙ more_again l 1 (name_here s q m)
+-- The end of s stops a walk that has read l labels,
+pub name_over : (x : Option Name) (s : List ℕ) (p n l : ℕ) → n < longest_name → x ≡ more_labels l (name_here s p n) → length s ≤ p → None ≡ x
+name_over x s p n l h e f = sym (e ∙ ap (more_labels l) (name_turn_lem s p n h) ∙ rw (le-leb _ _ f))
+
+module _ (x : Option Name) (s : List ℕ) (p n l : ℕ) (h : n < longest_name) (e : x ≡ more_labels l (name_here s p n)) (f : p < length s) where
+  -- the root ends it and is no label,
+  pub name_ends : octet_at s p ≡ 0 → Some (record { len = n + 1; labels = l }) ≡ x
+  name_ends z =
+      let k : l + 0 ≡ l = omega arith in
+      sym (e ∙ ap (more_labels l) (name_turn_lem s p n h) ∙ rw (lt-leb _ _ f, eq-eqb _ _ z, k))
+
+  -- an octet that begins no label stops it, as does a label for which there is no room,
+  pub name_no_label : longest_label < octet_at s p → None ≡ x
+  name_no_label g =
+      let z : octet_at s p ≡ 0 → ⊥ = omega arith in
+      sym (e ∙ ap (more_labels l) (name_turn_lem s p n h) ∙ rw (lt-leb _ _ f, ne_eqb _ _ z, lt-ltb _ _ g))
+
+  pub name_no_room : 1 ≤ octet_at s p → octet_at s p ≤ longest_label → longest_name ≤ n + 1 + octet_at s p → None ≡ x
+  name_no_room g i j =
+      let z : octet_at s p ≡ 0 → ⊥ = omega arith in
+      sym (e ∙ ap (more_labels l) (name_turn_lem s p n h) ∙ rw (lt-leb _ _ f, ne_eqb _ _ z, le-ltb _ _ i, le-leb _ _ j))
+
+  -- and a label is one more.
+  pub name_counts : (q m : ℕ) → 1 ≤ octet_at s p → octet_at s p ≤ longest_label → n + 1 + octet_at s p < longest_name
+      → q ≡ p + 1 + octet_at s p → m ≡ n + 1 + octet_at s p → x ≡ more_labels (l + 1) (name_here s q m)
+  name_counts q m g i j u v =
+      let z : octet_at s p ≡ 0 → ⊥ = omega arith in
+      let t : name_here s p n ≡ more_labels 1 (name_here s (p + 1 + octet_at s p) (n + 1 + octet_at s p)) =
+      name_turn_lem s p n h
+      ∙ rw (lt-leb _ _ f, ne_eqb _ _ z, le-ltb _ _ i, lt-leb _ _ j)
+      (ap (more_labels 1) (name_fuel (longest_name - n - 1) (longest_name - (n + 1 + octet_at s p)) s (p + 1 + octet_at s p) (n + 1 + octet_at s p) j (omega arith) (omega arith))) in
+      rw (u, v) (e ∙ ap (more_labels l) t ∙ more_again l 1 _)
+
+pub ruleset name_turns = (name_over, name_ends, name_no_label, name_no_room, name_counts)
 
 -- What a name that is read says of the walk after n octets: at most 255 octets in all, which stand in s; two or more for each label, and one.
 record Fits (s : List ℕ) (p n : ℕ) (r : Name) : Type 0 where
@@ -142,7 +157,7 @@ record Fits (s : List ℕ) (p n : ℕ) (r : Name) : Type 0 where
   inside : p + r.len ≤ length s + n
   counted : n + (r.labels + r.labels + 1) ≤ r.len
 
-from_fits : (k : ℕ) (s : List ℕ) (p n : ℕ) (r : Name) → n < longest_name → name_from k s p n ≡ Good r → Fits s p n r
+from_fits : (k : ℕ) (s : List ℕ) (p n : ℕ) (r : Name) → n < longest_name → name_from k s p n ≡ Some r → Fits s p n r
 unfolding name_from
 from_fits zero s p n r h e = absurd (let z : ◌≡◌ {A = ℕ} 0 1 = cc in omega arith)
 from_fits (suc k) s p n r h e = go (place s p n) (from_fits k s (p + 1 + octet_at s p) (n + 1 + octet_at s p))
@@ -150,7 +165,7 @@ from_fits (suc k) s p n r h e = go (place s p n) (from_fits k s (p + 1 + octet_a
     go : Place s p n
         → ((q : Name)
         → n + 1 + octet_at s p < longest_name
-        → name_from k s (p + 1 + octet_at s p) (n + 1 + octet_at s p) ≡ Good q
+        → name_from k s (p + 1 + octet_at s p) (n + 1 + octet_at s p) ≡ Some q
         → Fits s (p + 1 + octet_at s p) (n + 1 + octet_at s p) q)
         → Fits s p n r
     go (over f) i = absurd (let z : ◌≡◌ {A = ℕ} 0 1 = cc (at_over k s p n f) in omega arith)
@@ -171,11 +186,11 @@ from_fits (suc k) s p n r h e = go (place s p n) (from_fits k s (p + 1 + octet_a
         }
 
 -- a name that is read has at most 255 octets, and they stand in s
-pub name_fits : (s : List ℕ) (at : ℕ) (r : Name) → name_at s at ≡ Good r → (r.len ≤ longest_name) × (at + r.len ≤ length s)
+pub name_fits : (s : List ℕ) (at : ℕ) (r : Name) → name_at s at ≡ Some r → (r.len ≤ longest_name) × (at + r.len ≤ length s)
 name_fits s at r e =
     let f = from_fits longest_name s at 0 r (omega arith) e in
     (f.short, omega (arith, f.inside))
 
 -- two of them or more for each label, and one
-pub name_counted : (s : List ℕ) (at : ℕ) (r : Name) → name_at s at ≡ Good r → r.labels + r.labels + 1 ≤ r.len
+pub name_counted : (s : List ℕ) (at : ℕ) (r : Name) → name_at s at ≡ Some r → r.labels + r.labels + 1 ≤ r.len
 name_counted s at r e = omega (arith, (from_fits longest_name s at 0 r (omega arith) e).counted)

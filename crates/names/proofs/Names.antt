@@ -1,19 +1,11 @@
 -- What the reader of a name without pointers means, in the plain words of specs/Names.antt.
-use Prim.Native.Nat.{ℕ, suc, zero, ◌+◌, ◌<◌, ◌≤◌, min}
-use mathlib.Core.Path.{◌≡◌, refl, sym, ap, ◌∙◌, subst}
-use mathlib.Core.List.{List, [], ◌∷◌, ◌++◌, append_assoc, append-nil}
-use mathlib.Core.Logic.{◌↔◌, ◌⊎◌, inl, inr}
-use native.Mathlib.Omega.{arith}
-use lib.ListN.{length, take, drop, length-append, length-drop, length-take, take-append-drop}
-use lib.Seq.{take_at, drop_at, drop-drop, length-take-le}
+use Rattle.std.proofs.Common.{None, Option, Some, ℕ, suc, zero, ◌+◌, ◌<◌, ◌≤◌, min, ◌≡◌, refl, sym, ap, ◌∙◌, subst, List, [], ◌∷◌, ◌++◌, append_assoc, append-nil, ◌↔◌, ◌⊎◌, inl, inr, arith, length, take, drop, length-append, length-drop, length-take, take-append-drop, take_at, drop_at, drop-drop, length-take-le}
 use Rattle.octets.specs.Octets.{Octets, octet_at}
 use Rattle.octets.proofs.Octets.{octets_append, octets_drop, octets_take}
 use Rattle.octets.proofs.Readers.{finds_none}
 use Rattle.names.specs.Bounds.{longest_label, longest_name}
 use Rattle.names.specs.Names.{Labels, AreLabels, encode, IsName, NameAt, PlainReadingAt}
 use Rattle.names.specs.declared.Name.{Name}
-use Rattle.names.specs.declared.NameRead.{NameRead}
-use Rattle.names.specs.declared.NameRead.TheVariants.{Good, Bad}
 use Rattle.names.specs.NameWalk.{more_labels, name_from, name_at}
 use Rattle.names.proofs.Lists.{stand_drop, from_here, there, here, behind, past, same_run}
 use Rattle.names.proofs.NameWalk.{Place, over, root, label, none, long, place, at_over, at_root_lem, at_none, at_long, at_label, without}
@@ -108,7 +100,7 @@ found_label s p n q r l_is m_is o h g i f =
       short = omega (arith, f.short);
     }
 
-sound : (k : ℕ) (s : List ℕ) (p n : ℕ) (r : Name) → Octets s → n < longest_name → name_from k s p n ≡ Good r
+sound : (k : ℕ) (s : List ℕ) (p n : ℕ) (r : Name) → Octets s → n < longest_name → name_from k s p n ≡ Some r
     → Found s p n r
 unfolding name_from
 sound zero s p n r o b e = absurd (let z : ◌≡◌ {A = ℕ} 0 1 = cc in omega arith)
@@ -117,7 +109,7 @@ sound (suc k) s p n r o b e = go (place s p n) (λ q. sound k s (p + 1 + octet_a
     go : Place s p n
         → ((q : Name)
         → n + 1 + octet_at s p < longest_name
-        → name_from k s (p + 1 + octet_at s p) (n + 1 + octet_at s p) ≡ Good q
+        → name_from k s (p + 1 + octet_at s p) (n + 1 + octet_at s p) ≡ Some q
         → Found s (p + 1 + octet_at s p) (n + 1 + octet_at s p) q)
         → Found s p n r
     go (over h) i = absurd (let z : ◌≡◌ {A = ℕ} 0 1 = cc (at_over k s p n h) in omega arith)
@@ -132,7 +124,7 @@ sound (suc k) s p n r o b e = go (place s p n) (λ q. sound k s (p + 1 + octet_a
 
 complete : (k : ℕ) (s : List ℕ) (p n : ℕ) (name : Labels) (rest : List ℕ) → AreLabels name → drop p s ≡ encode name ++ rest
     → n + length (encode name) ≤ longest_name → length name < k
-    → name_from k s p n ≡ Good (record { len = n + length (encode name); labels = length name })
+    → name_from k s p n ≡ Some (record { len = n + length (encode name); labels = length name })
 complete zero s p n name rest a e h f = absurd (omega arith)
 complete (suc k) s p n [] rest a e h f = at_root_lem k s p n (there s p 0 rest e) (here s p 0 rest e)
 complete (suc k) s p n (l ∷ m) rest a e h f =
@@ -152,14 +144,14 @@ complete (suc k) s p n (l ∷ m) rest a e h f =
     let y : 1 + length m ≡ length (l ∷ m) = omega arith in
     at_label k s p n (there s p (length l) t e) some few room
     ∙ ap (more_labels 1) (complete k s (p + 1 + c) (n + 1 + c) m rest a.1 b2 h2 fl)
-    ∙ ap (λ (x : ℕ). Good (record { len = x; labels = 1 + length m })) z
-    ∙ ap (λ (x : ℕ). Good (record { len = n + length (encode (l ∷ m)); labels = x })) y
+    ∙ ap (λ (x : ℕ). Some (record { len = x; labels = 1 + length m })) z
+    ∙ ap (λ (x : ℕ). Some (record { len = n + length (encode (l ∷ m)); labels = x })) y
 
 -- The reader finds a name exactly if a name's octets stand there; it tells how many they are, and how many labels.
-pub reads_a_name : (s : List ℕ) (at : ℕ) (r : Name) → Octets s → (name_at s at ≡ Good r) ↔ PlainReadingAt s at r
+pub reads_a_name : (s : List ℕ) (at : ℕ) (r : Name) → Octets s → (name_at s at ≡ Some r) ↔ PlainReadingAt s at r
 reads_a_name s at r o = (to, from)
   where
-    to : name_at s at ≡ Good r → PlainReadingAt s at r
+    to : name_at s at ≡ Some r → PlainReadingAt s at r
     to e =
         let f = sound longest_name s at 0 r o (omega arith) e in
         let l : r.len ≡ length (encode f.name) = omega (arith, f.len_is) in
@@ -175,7 +167,7 @@ reads_a_name s at r o = (to, from)
           labels_are = f.labels_are;
         }
 
-    from : PlainReadingAt s at r → name_at s at ≡ Good r
+    from : PlainReadingAt s at r → name_at s at ≡ Some r
     from a =
         let f = a.name_at in
         let n : List ℕ = encode f.name in
@@ -183,23 +175,23 @@ reads_a_name s at r o = (to, from)
         let fuel : length f.name < longest_name = omega (arith, encode_labels f.name f.is_name.labels) in
         let l : 0 + length n ≡ r.len = omega (arith, f.len_is) in
         complete longest_name s at 0 f.name (drop (length n) (drop at s)) f.is_name.labels (stand_drop s at n f.octets) h fuel
-        ∙ ap (λ (x : ℕ). Good (record { len = x; labels = length f.name })) l
-        ∙ ap (λ (x : ℕ). Good (record { len = r.len; labels = x })) (sym a.labels_are)
+        ∙ ap (λ (x : ℕ). Some (record { len = x; labels = length f.name })) l
+        ∙ ap (λ (x : ℕ). Some (record { len = r.len; labels = x })) (sym a.labels_are)
 
 -- So it finds every name that stands there.
 pub finds_name : (s : List ℕ) (at len : ℕ) → Octets s → (f : NameAt s at len)
-    → name_at s at ≡ Good (record { len = len; labels = length f.name })
+    → name_at s at ≡ Some (record { len = len; labels = length f.name })
 finds_name s at len o f = (reads_a_name s at _ o).1 (record { name_at = f; labels_are = refl })
 
 -- The reader finds none exactly if no name stands there: its turns never run out.
-pub reads_none : (s : List ℕ) (at : ℕ) → Octets s → (name_at s at ≡ Bad) ↔ ((len : ℕ) → NameAt s at len → ⊥)
+pub reads_none : (s : List ℕ) (at : ℕ) → Octets s → (name_at s at ≡ None) ↔ ((len : ℕ) → NameAt s at len → ⊥)
 reads_none s at o = (λ e len f. i.0 e (record { len = len; labels = length f.name }) (record { name_at = f; labels_are = refl }), λ n. i.1 (λ r f. n r.len f.name_at))
   where
-    either : (x : NameRead) → ((r : Name) × (x ≡ Good r)) ⊎ (x ≡ Bad)
-    either (Good r) = inl (r, refl)
-    either Bad = inr refl
+    either : (x : Option Name) → ((r : Name) × (x ≡ Some r)) ⊎ (x ≡ None)
+    either (Some r) = inl (r, refl)
+    either None = inr refl
 
-    i : (name_at s at ≡ Bad) ↔ ((r : Name) → PlainReadingAt s at r → ⊥)
+    i : (name_at s at ≡ None) ↔ ((r : Name) → PlainReadingAt s at r → ⊥)
     i = finds_none (λ r. reads_a_name s at r o) (λ r e. let z : ◌≡◌ {A = ℕ} 0 1 = cc in omega arith) (either (name_at s at))
 
 -- At most one name stands at an offset.
@@ -216,17 +208,17 @@ one_name s at m n a b =
 
 -- The octets of a name are read back as that name, whatever stands before and after them.
 pub reads_back : (b : List ℕ) (n : Labels) (r : List ℕ) → IsName n
-    → name_at (b ++ (encode n ++ r)) (length b) ≡ Good (record { len = length (encode n); labels = length n })
+    → name_at (b ++ (encode n ++ r)) (length b) ≡ Some (record { len = length (encode n); labels = length n })
 reads_back b n r h =
     let e : drop (length b) (b ++ (encode n ++ r)) ≡ encode n ++ r = drop_at b (encode n ++ r) (length b) refl in
     let s : 0 + length (encode n) ≤ longest_name = omega (arith, h.short) in
     let f : length n < longest_name = omega (arith, encode_labels n h.labels, h.short) in
     let z : 0 + length (encode n) ≡ length (encode n) = omega arith in
     complete longest_name (b ++ (encode n ++ r)) (length b) 0 n r h.labels e s f
-    ∙ ap (λ (x : ℕ). Good (record { len = x; labels = length n })) z
+    ∙ ap (λ (x : ℕ). Some (record { len = x; labels = length n })) z
 
 -- Alone, too.
-pub reads_alone : (n : Labels) → IsName n → name_at (encode n) 0 ≡ Good (record { len = length (encode n); labels = length n })
+pub reads_alone : (n : Labels) → IsName n → name_at (encode n) 0 ≡ Some (record { len = length (encode n); labels = length n })
 reads_alone n h = ap (λ (x : List ℕ). name_at x 0) (sym (append-nil (encode n))) ∙ reads_back [] n [] h
 
 -- A name that stands in s ends within s.

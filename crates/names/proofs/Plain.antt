@@ -1,15 +1,9 @@
 -- A name without pointers, read as the name of a record: the two readers agree.
-use Prim.Native.Nat.{ℕ, suc, ◌+◌, ◌≤◌}
-use mathlib.Core.Path.{◌≡◌, refl, sym, ap, ◌∙◌}
-use mathlib.Core.List.{List, [], ◌∷◌, ◌++◌, append_assoc, map}
-use native.Mathlib.Omega.{arith}
-use lib.ListN.{length, take, drop, length-append}
-use lib.Seq.{take_at}
+use Rattle.std.proofs.Common.{Some, ℕ, suc, ◌+◌, ◌≤◌, ◌≡◌, refl, sym, ap, ◌∙◌, List, [], ◌∷◌, ◌++◌, append_assoc, map, arith, length, take, drop, length-append, take_at}
 use Rattle.octets.specs.Octets.{Octets}
 use Rattle.names.specs.Bounds.{longest_name}
 use Rattle.names.specs.Names.{Labels, AreLabels, encode, NameAt}
 use Rattle.names.specs.Readings.{label, Reads, labels, pointers, after, ReadingAt}
-use Rattle.names.specs.declared.RecordNameRead.TheVariants.{Good}
 use Rattle.names.specs.RecordNameWalk.{record_name_at}
 use Rattle.names.proofs.Lists.{stand_drop, behind, past}
 use Rattle.names.proofs.Readings.{label_steps_lem, reads_a_reading}
@@ -61,5 +55,5 @@ module _ (s : List ℕ) (at len : ℕ) (f : NameAt s at len) where
 
 -- So the reader of a record's name finds a name without pointers.
 pub plain_is_packed : (s : List ℕ) (at len : ℕ) → Octets s → (f : NameAt s at len)
-    → record_name_at s at ≡ Good (record { next = at + len; len = len; pointers = 0; labels = length f.name })
+    → record_name_at s at ≡ Some (record { next = at + len; len = len; pointers = 0; labels = length f.name })
 plain_is_packed s at len o f = (reads_a_reading s at _ o).1 (plain_reading s at len f)

@@ -1,12 +1,5 @@
 -- What the reader of a record's name means, in the plain words of specs/Readings.antt.
-use Prim.Native.Nat.{ℕ, suc, zero, ◌+◌, ◌-◌, ◌<◌, ◌≤◌}
-use mathlib.Core.Path.{◌≡◌, refl, sym, ap, ◌∙◌, subst}
-use mathlib.Core.List.{List, [], ◌∷◌}
-use mathlib.Core.Logic.{◌↔◌, ◌⊎◌, inl, inr}
-use native.Mathlib.Omega.{arith}
-use lib.ListN.{length, take, drop, length-append, length-drop}
-use lib.Seq.{length-take-le}
-use borrow.Author.Tests.{ne_eqb}
+use Rattle.std.proofs.Common.{None, Option, Some, ℕ, suc, zero, ◌+◌, ◌-◌, ◌<◌, ◌≤◌, ◌≡◌, refl, sym, ap, ◌∙◌, subst, List, [], ◌∷◌, ◌↔◌, ◌⊎◌, inl, inr, arith, length, take, drop, length-append, length-drop, length-take-le, ne_eqb}
 use Rattle.octets.specs.Octets.{Octets, octet_at, part_of}
 use Rattle.octets.proofs.Octets.{octets_drop, octets_take, octet_at_lem, part_in}
 use Rattle.octets.proofs.Readers.{finds_none}
@@ -16,8 +9,6 @@ use Rattle.names.specs.Readings.{Step, label, pointer, IsPointer, Reads, labels,
 use Rattle.names.specs.declared.Walk.{Walk}
 use Rattle.names.specs.declared.Turn.TheVariants.{More}
 use Rattle.names.specs.declared.RecordName.{RecordName}
-use Rattle.names.specs.declared.RecordNameRead.{RecordNameRead}
-use Rattle.names.specs.declared.RecordNameRead.TheVariants.{Good, Bad}
 use Rattle.names.specs.RecordNameWalk.{target, goes_on, at_root, past_label, followed, turn_at, more_labels, labels_taken, record_name_from, walk_at, turns, record_name_at, expanded_from, expanded_at}
 use Rattle.names.proofs.Lists.{stand_drop, from_here, there, here}
 use Rattle.names.proofs.Turns.{Met, root, one, jump, wrong, met, turn_root, turn_label, turn_jump, takes_one, takes_none, more_none, Without, after_turn}
@@ -55,7 +46,7 @@ reads_inside s p run [] a = there s p 0 _ (stand_drop s p (0 ∷ []) a)
 reads_inside s p run (label l ∷ r) a = there s p (length l) _ (stand_drop s p (length l ∷ l) a.1)
 reads_inside s p run (pointer to ∷ r) a = let h : p + 1 < length s = a.0.inside in omega arith
 
-module _ (s : List ℕ) (w : Walk) (r : RecordName) {x : RecordNameRead} (o : Octets s) where
+module _ (s : List ℕ) (w : Walk) (r : RecordName) {x : Option RecordName} (o : Octets s) where
   from_label : w.at < length s → 1 ≤ octet_at s w.at → octet_at s w.at ≤ longest_label
       → (q : Without (labels_taken w (past_label w (octet_at s w.at))) x r) → From s (past_label w (octet_at s w.at)) q.fewer → From s w r
   from_label h g i q f =
@@ -100,15 +91,15 @@ module _ (s : List ℕ) (w : Walk) (r : RecordName) {x : RecordNameRead} (o : Oc
         few = omega (arith, q.pointers_are, f.few);
       }
 
-sound : (k : ℕ) (s : List ℕ) (w : Walk) (r : RecordName) → Octets s → Within w → record_name_from k s w ≡ Good r → From s w r
+sound : (k : ℕ) (s : List ℕ) (w : Walk) (r : RecordName) → Octets s → Within w → record_name_from k s w ≡ Some r → From s w r
 unfolding record_name_from
 sound zero s w r o b e = absurd (let z : ◌≡◌ {A = ℕ} 0 1 = cc in omega arith)
 sound (suc k) s w r o b e = go (met s w) (λ v q. sound k s v q o)
   where
-    go : Met s w → ((v : Walk) (q : RecordName) → Within v → record_name_from k s v ≡ Good q → From s v q) → From s w r
+    go : Met s w → ((v : Walk) (q : RecordName) → Within v → record_name_from k s v ≡ Some q → From s v q) → From s w r
     go (wrong q) i = absurd (let z : ◌≡◌ {A = ℕ} 0 1 = cc in omega arith)
     go (root h g) i =
-        let f : Good (at_root w) ≡ Good r = rw (turn_root s w h g) at e in
+        let f : Some (at_root w) ≡ Some r = rw (turn_root s w h g) at e in
         let q : at_root w ≡ r = cc in
         subst (λ (x : RecordName). From s w x) q (from_root s w b h g)
     go (one h g u v) i =
@@ -129,9 +120,9 @@ first_pointer : (s : List ℕ) (p run to : ℕ) → Octets s → IsPointer s p r
 first_pointer s p run to o a = omega (arith, a.word, octet_at_lem s (p + 1) o)
 
 -- a reading is what the reader tells of it
-abbrev read_as : Walk → List Step → RecordNameRead
+abbrev read_as : Walk → List Step → Option RecordName
 read_as w r =
-    Good
+    Some
     (record {
       next = goes_on w (after w.at r);
       len = w.len + length (encode (labels r));
@@ -205,7 +196,7 @@ complete zero s w r o a = absurd (omega (arith, a.fuel))
 complete (suc k) s w [] o a =
     let t = turn_root s w (reads_inside s w.at w.run [] a.reads) (first_root s w.at a.reads) in
     let z : w.pointers ≡ w.pointers + 0 = omega arith in
-    rw t (ap (λ (c : ℕ). Good (record { next = goes_on w (w.at + 1); len = w.len + 1; pointers = c; labels = 0 })) z)
+    rw t (ap (λ (c : ℕ). Some (record { next = goes_on w (w.at + 1); len = w.len + 1; pointers = c; labels = 0 })) z)
 complete (suc k) s w (label l ∷ r) o a =
     let f = label_first k s w l r a in
     let p : ℕ = w.at in
@@ -216,8 +207,8 @@ complete (suc k) s w (label l ∷ r) o a =
     omega (arith, length-append l (encode (labels r))) in
     rw (f.turn, takes_one w c)
     (ap (more_labels 1) (complete k s (past_label w c) r o f.rest)
-    ∙ ap (λ (m : ℕ). Good (record { next = goes_on w (after (p + 1 + m) r); len = w.len + 1 + c + length (encode (labels r)); pointers = n; labels = 1 + label_steps r })) e
-    ∙ ap (λ (m : ℕ). Good (record { next = goes_on w (after (p + 1 + length l) r); len = m; pointers = n; labels = 1 + label_steps r })) z)
+    ∙ ap (λ (m : ℕ). Some (record { next = goes_on w (after (p + 1 + m) r); len = w.len + 1 + c + length (encode (labels r)); pointers = n; labels = 1 + label_steps r })) e
+    ∙ ap (λ (m : ℕ). Some (record { next = goes_on w (after (p + 1 + length l) r); len = m; pointers = n; labels = 1 + label_steps r })) z)
 complete (suc k) s w (pointer to ∷ r) o a =
     let f = pointer_first k s w to r o a in
     let nz : w.pointers + 1 ≡ 0 → ⊥ = omega arith in
@@ -225,7 +216,7 @@ complete (suc k) s w (pointer to ∷ r) o a =
     rw (f.turn, takes_none w (target s w.at), more_none (record_name_from k s (followed w (target s w.at))))
     (complete k s (followed w (target s w.at)) r o f.rest
     ∙ rw (ne_eqb _ _ nz)
-    (ap (λ (m : ℕ). Good (record { next = goes_on w (w.at + 2); len = w.len + length (encode (labels r)); pointers = m; labels = label_steps r })) z))
+    (ap (λ (m : ℕ). Some (record { next = goes_on w (w.at + 2); len = w.len + length (encode (labels r)); pointers = m; labels = label_steps r })) z))
 
 -- the labels of a reading are labels, and its steps are its labels and pointers
 reads_labels : (s : List ℕ) (p run : ℕ) (r : List Step) → Reads s p run r → AreLabels (labels r)
@@ -256,10 +247,10 @@ readable s at r f =
     }
 
 -- The reader tells of a record's name exactly what its reading is.
-pub reads_a_reading : (s : List ℕ) (at : ℕ) (r : RecordName) → Octets s → (record_name_at s at ≡ Good r) ↔ ReadingAt s at r
+pub reads_a_reading : (s : List ℕ) (at : ℕ) (r : RecordName) → Octets s → (record_name_at s at ≡ Some r) ↔ ReadingAt s at r
 reads_a_reading s at r o = (to_reading, from_reading)
   where
-    to_reading : record_name_at s at ≡ Good r → ReadingAt s at r
+    to_reading : record_name_at s at ≡ Some r → ReadingAt s at r
     to_reading e =
         let f = sound turns s (walk_at at) r o (within_start at) e in
         record {
@@ -273,24 +264,24 @@ reads_a_reading s at r o = (to_reading, from_reading)
           few = f.few;
         }
 
-    from_reading : ReadingAt s at r → record_name_at s at ≡ Good r
+    from_reading : ReadingAt s at r → record_name_at s at ≡ Some r
     from_reading f =
         let m : List Step = f.steps in
         let x : 0 + length (encode (labels m)) ≡ r.len = omega (arith, f.len_is) in
         let y : 0 + pointers m ≡ r.pointers = omega (arith, f.pointers_are) in
         complete turns s (walk_at at) m o (readable s at r f)
-        ∙ ap (λ (n : ℕ). Good (record { next = n; len = 0 + length (encode (labels m)); pointers = 0 + pointers m; labels = label_steps m })) (sym f.next_is)
-        ∙ ap (λ (n : ℕ). Good (record { next = r.next; len = n; pointers = 0 + pointers m; labels = label_steps m })) x
-        ∙ ap (λ (n : ℕ). Good (record { next = r.next; len = r.len; pointers = n; labels = label_steps m })) y
-        ∙ ap (λ (n : ℕ). Good (record { next = r.next; len = r.len; pointers = r.pointers; labels = n })) (sym f.labels_are)
+        ∙ ap (λ (n : ℕ). Some (record { next = n; len = 0 + length (encode (labels m)); pointers = 0 + pointers m; labels = label_steps m })) (sym f.next_is)
+        ∙ ap (λ (n : ℕ). Some (record { next = r.next; len = n; pointers = 0 + pointers m; labels = label_steps m })) x
+        ∙ ap (λ (n : ℕ). Some (record { next = r.next; len = r.len; pointers = n; labels = label_steps m })) y
+        ∙ ap (λ (n : ℕ). Some (record { next = r.next; len = r.len; pointers = r.pointers; labels = n })) (sym f.labels_are)
 
 -- The reader gives up exactly if there is no reading: its turns never run out.
-pub reads_no_reading : (s : List ℕ) (at : ℕ) → Octets s → (record_name_at s at ≡ Bad) ↔ ((r : RecordName) → ReadingAt s at r → ⊥)
+pub reads_no_reading : (s : List ℕ) (at : ℕ) → Octets s → (record_name_at s at ≡ None) ↔ ((r : RecordName) → ReadingAt s at r → ⊥)
 reads_no_reading s at o = finds_none (λ r. reads_a_reading s at r o) (λ r e. let z : ◌≡◌ {A = ℕ} 0 1 = cc in omega arith) (either (record_name_at s at))
   where
-    either : (x : RecordNameRead) → ((r : RecordName) × (x ≡ Good r)) ⊎ (x ≡ Bad)
-    either (Good r) = inl (r, refl)
-    either Bad = inr refl
+    either : (x : Option RecordName) → ((r : RecordName) × (x ≡ Some r)) ⊎ (x ≡ None)
+    either (Some r) = inl (r, refl)
+    either None = inr refl
 
 one_reading : (s : List ℕ) (p run : ℕ) (a b : List Step) → Octets s → Reads s p run a → Reads s p run b → a ≡ b
 one_reading s p run [] [] o x y = refl

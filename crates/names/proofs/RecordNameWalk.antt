@@ -1,10 +1,5 @@
 -- Laws of the walk over a record's name: its fuel, and what its end says.
-use Prim.Native.Nat.{ℕ, suc, zero, ◌+◌, ◌-◌, ◌/◌, ◌<◌, ◌≤◌}
-use mathlib.Core.Path.{◌≡◌, refl, sym, ap, ◌∙◌, subst}
-use mathlib.Core.List.{List, [], ◌∷◌, ◌++◌}
-use native.Mathlib.Omega.{arith}
-use lib.ListN.{length, take, drop, length-append}
-use borrow.Author.Tests.{eq-eqb, ne_eqb}
+use Rattle.std.proofs.Common.{None, Option, Some, ℕ, suc, zero, ◌+◌, ◌-◌, ◌/◌, ◌<◌, ◌≤◌, ◌≡◌, refl, sym, ap, ◌∙◌, subst, List, [], ◌∷◌, ◌++◌, arith, length, take, drop, length-append, eq-eqb, ne_eqb}
 use Rattle.octets.specs.Octets.{octet_at, part_of}
 use Rattle.octets.proofs.Octets.{length_part, part_in}
 use Rattle.names.specs.Bounds.{longest_name, most_pointers}
@@ -12,10 +7,8 @@ use Rattle.names.specs.declared.Walk.{Walk}
 use Rattle.names.specs.declared.Turn.{Turn}
 use Rattle.names.specs.declared.Turn.TheVariants.{More, End, Wrong}
 use Rattle.names.specs.declared.RecordName.{RecordName}
-use Rattle.names.specs.declared.RecordNameRead.{RecordNameRead}
-use Rattle.names.specs.declared.RecordNameRead.TheVariants.{Good, Bad}
 use Rattle.names.specs.RecordNameWalk.{target, goes_on, at_root, past_label, followed, turn_at, more_labels, labels_taken, on_turn, record_name_from, walk_at, turns, record_name_at, on_expand, expanded_from}
-use Rattle.names.proofs.Turns.{Met, root, one, jump, wrong, met, turn_root, turn_label, turn_jump, takes_one, takes_none, more_again, after_turn}
+use Rattle.names.proofs.Turns.{Met, root, one, jump, wrong, met, turn_root, turn_label, turn_jump, takes_one, takes_none, root_none, more_none, more_again, after_turn}
 
 -- A walk within the bounds. The turns that are left of it fall with each: labels of two octets or more, pointers, and the last one.
 pub record Within (w : Walk) : Type 0 where
@@ -102,14 +95,14 @@ module _ {A : Type 0} (from : ℕ → List ℕ → Walk → A) (on : List ℕ �
           fuel m (left v) s v o.within (omega arith) (omega arith))
 
 -- the two walks from w on, with just enough fuel
-abbrev pub record_name_here : List ℕ → Walk → RecordNameRead
+abbrev pub record_name_here : List ℕ → Walk → Option RecordName
 record_name_here s w = record_name_from (left w) s w
 
 abbrev pub expanded_here : List ℕ → Walk → List ℕ
 expanded_here s w = expanded_from (left w) s w
 
 -- their turns
-same_read : (w : Walk) (t : Turn) (f g : Walk → RecordNameRead) → ((v : Walk) → t ≡ More v → f v ≡ g v) → on_turn w t f ≡ on_turn w t g
+same_read : (w : Walk) (t : Turn) (f g : Walk → Option RecordName) → ((v : Walk) → t ≡ More v → f v ≡ g v) → on_turn w t f ≡ on_turn w t g
 same_read w (More v) f g h = ap (more_labels (labels_taken w v)) (h v refl)
 same_read w (End r) f g h = refl
 same_read w Wrong f g h = refl
@@ -144,19 +137,10 @@ module _ (s : List ℕ) (w : Walk) (b : Within w) where
   pub walk_more : (v : Walk) → turn_at s w ≡ More v → record_name_here s w ≡ more_labels (labels_taken w v) (record_name_here s v)
   walk_more v e = walk_turn s w b ∙ rw e
 
-  -- what is read, with l labels before w, is read with those before v
-  pub walk_counts : (x : RecordNameRead) (l m : ℕ) (v : Walk) → x ≡ more_labels l (record_name_here s w) → turn_at s w ≡ More v
-      → m ≡ l + labels_taken w v → x ≡ more_labels m (record_name_here s v)
-  walk_counts x l m v i e f =
-      i
-      ∙ ap (more_labels l) (walk_more v e)
-      ∙ more_again l (labels_taken w v) (record_name_here s v)
-      ∙ ap (λ (k : ℕ). more_labels k (record_name_here s v)) (sym f)
-
-  pub walk_end : (r : RecordName) → turn_at s w ≡ End r → record_name_here s w ≡ Good r
+  pub walk_end : (r : RecordName) → turn_at s w ≡ End r → record_name_here s w ≡ Some r
   walk_end r e = walk_turn s w b ∙ rw e
 
-  pub walk_wrong : turn_at s w ≡ Wrong → record_name_here s w ≡ Bad
+  pub walk_wrong : turn_at s w ≡ Wrong → record_name_here s w ≡ None
   walk_wrong e = walk_turn s w b ∙ rw e
 
   pub expand_more : (v : Walk) → turn_at s w ≡ More v
@@ -168,6 +152,45 @@ module _ (s : List ℕ) (w : Walk) (b : Within w) where
 
   pub expand_wrong : turn_at s w ≡ Wrong → expanded_here s w ≡ []
   expand_wrong e = expand_turn s w b ∙ rw e
+
+-- A walk that began at `from` has come to w, with l labels so far.
+pub record Come (s : List ℕ) (from : Walk) (l : ℕ) (w : Walk) : Type 0 where
+  pub within : Within w
+  pub few : l ≤ w.len
+  pub rest : record_name_from turns s from ≡ more_labels l (record_name_here s w)
+
+pub come_start : (s : List ℕ) (from : Walk) → from.len < longest_name → from.pointers ≤ most_pointers → Come s from 0 from
+come_start s from h g =
+    let w : Within from = record { short = h; few = g } in
+    record { within = w; few = omega arith; rest = walk_fuel turns s from w (omega arith) ∙ sym (more_none _) }
+
+module _ {s : List ℕ} {from : Walk} {l : ℕ} {w : Walk} (c : Come s from l w) where
+  pub come_on : {m : ℕ} {v : Walk} → turn_at s w ≡ More v → m ≡ l + labels_taken w v → Come s from m v
+  come_on {m} {v} e f =
+      let o = onward s w v c.within e in
+      record {
+        within = o.within;
+        few = omega (arith, c.few, o.counted);
+        rest = c.rest
+            ∙ ap (more_labels l) (walk_more s w c.within v e)
+            ∙ more_again l (labels_taken w v) (record_name_here s v)
+            ∙ ap (λ (k : ℕ). more_labels k (record_name_here s v)) (sym f);
+      }
+
+  -- a walk that ends takes no label more
+  pub come_end : {r : RecordName} → turn_at s w ≡ End r
+      → Some (record { next = r.next; len = r.len; pointers = r.pointers; labels = l }) ≡ record_name_from turns s from
+  come_end {r} e =
+      let z : l + r.labels ≡ l = omega (arith, root_none s w r e) in
+      sym
+      (c.rest
+      ∙ ap (more_labels l) (walk_end s w c.within r e)
+      ∙ ap (λ (k : ℕ). Some (record { next = r.next; len = r.len; pointers = r.pointers; labels = k })) z)
+
+  pub come_wrong : turn_at s w ≡ Wrong → None ≡ record_name_from turns s from
+  come_wrong e = sym (c.rest ∙ ap (more_labels l) (walk_wrong s w c.within e))
+
+pub ruleset come = (come_start, onward, come_on, come_end, come_wrong)
 
 -- a pointer adds no octets to the expanded name
 pub no_part : (s : List ℕ) (w : Walk) → w.at < length s → part_of s w.at (w.at + (w.len - w.len)) ≡ []
@@ -194,19 +217,19 @@ goes_first w p z = rw (eq-eqb _ _ z)
 goes_later : (w : Walk) (p : ℕ) → (w.pointers ≡ 0 → ⊥) → goes_on w p ≡ w.next
 goes_later w p z = rw (ne_eqb _ _ z)
 
-pub ended : (k : ℕ) (s : List ℕ) (w : Walk) (r : RecordName) → Within w → record_name_from k s w ≡ Good r
+pub ended : (k : ℕ) (s : List ℕ) (w : Walk) (r : RecordName) → Within w → record_name_from k s w ≡ Some r
     → Ended s w (expanded_from k s w) r
 unfolding record_name_from expanded_from
 ended zero s w r b e = absurd (let z : ◌≡◌ {A = ℕ} 0 1 = cc in omega arith)
 ended (suc k) s w r b e = go (met s w) (λ v q. ended k s v q)
   where
     go : Met s w
-        → ((v : Walk) (q : RecordName) → Within v → record_name_from k s v ≡ Good q → Ended s v (expanded_from k s v) q)
+        → ((v : Walk) (q : RecordName) → Within v → record_name_from k s v ≡ Some q → Ended s v (expanded_from k s v) q)
         → Ended s w (expanded_from (suc k) s w) r
     go (wrong q) i = absurd (let z : ◌≡◌ {A = ℕ} 0 1 = cc in omega arith)
     go (root h g) i =
         let t = turn_root s w h g in
-        let f : Good (at_root w) ≡ Good r = rw t at e in
+        let f : Some (at_root w) ≡ Some r = rw t at e in
         let q : at_root w ≡ r = cc in
         rw t
         (subst
@@ -268,7 +291,7 @@ pub record RecordNameFits (s : List ℕ) (at : ℕ) (r : RecordName) : Type 0 wh
   pub length_is : length (expanded_from turns s (walk_at at)) ≡ r.len
   pub counted : r.labels + r.labels + 1 ≤ r.len
 
-pub record_name_fits : (s : List ℕ) (at : ℕ) (r : RecordName) → record_name_at s at ≡ Good r → RecordNameFits s at r
+pub record_name_fits : (s : List ℕ) (at : ℕ) (r : RecordName) → record_name_at s at ≡ Some r → RecordNameFits s at r
 record_name_fits s at r e =
     let f = ended turns s (walk_at at) r (within_start at) e in
     record {

@@ -1,13 +1,6 @@
 -- Two names walked side by side: what each turn of the one or the other leaves to compare.
-use Prim.Native.Nat.{ℕ, suc, zero, ◌+◌, ◌-◌, ◌<◌, ◌≤◌}
-use mathlib.Core.Path.{◌≡◌, refl, sym, ap, ◌∙◌}
-use mathlib.Core.List.{List, [], ◌∷◌, ◌++◌, append_assoc}
-use mathlib.Core.Bool.{Bool, true, false}
-use native.Mathlib.Omega.{arith}
-use lib.Dec.{eqb}
-use lib.ListN.{length, take, drop, length-append, length-drop}
-use lib.Seq.{length-take-le}
-use borrow.Author.Tests.{eq-eqb, ne_eqb, eqb-true, eqb-false}
+use Rattle.std.proofs.Common.{None, Option, Some, ℕ, suc, zero, ◌+◌, ◌-◌, ◌<◌, ◌≤◌, ◌≡◌, refl, sym, ap, ◌∙◌, List, [], ◌∷◌, ◌++◌, append_assoc, Bool, true, false, arith, eqb, length, take, drop, length-append, length-drop, length-take-le, eq-eqb, ne_eqb, eqb-true}
+use Rattle.std.proofs.lemmas.Bool.{eqb-false}
 use Rattle.octets.specs.Tests.{◌and◌}
 use Rattle.octets.specs.Octets.{octet_at, part_of}
 use Rattle.octets.proofs.Tests.{split, cond_same}
@@ -18,8 +11,6 @@ use Rattle.names.specs.declared.Walk.{Walk}
 use Rattle.names.specs.declared.Turn.{Turn}
 use Rattle.names.specs.declared.Turn.TheVariants.{More, End, Wrong}
 use Rattle.names.specs.declared.RecordName.{RecordName}
-use Rattle.names.specs.declared.RecordNameRead.{RecordNameRead}
-use Rattle.names.specs.declared.RecordNameRead.TheVariants.{Good, Bad}
 use Rattle.names.specs.RecordNameWalk.{target, past_label, followed, turn_at, more_labels, labels_taken, walk_at, turns, record_name_from, record_name_at, expanded_from, expanded_at, if_good}
 use Rattle.names.specs.Comparison.{is_good, same_record_name, is_end, one_more, ends_from}
 use Rattle.names.proofs.Lists.{from_here}
@@ -41,19 +32,19 @@ same_start s p t q a b e f =
     ∙ ap (λ (w : Walk). same_here s w t (walk_at q)) (sym e)
     ∙ ap (λ (w : Walk). same_here s a t w) (sym f)
   where
-    go : (x y : RecordNameRead) (k l : List ℕ)
+    go : (x y : Option RecordName) (k l : List ℕ)
         → (is_good x and is_good y and same_name (if_good x k) (if_good y l)) ≡ (is_good x and is_good y and same_name k l)
-    go (Good r) (Good u) k l = refl
-    go (Good r) Bad k l = refl
-    go Bad y k l = refl
+    go (Some r) (Some u) k l = refl
+    go (Some r) None k l = refl
+    go None y k l = refl
 
     fuelled : (s : List ℕ) (p : ℕ) → record_name_at s p ≡ record_name_here s (walk_at p)
     fuelled s p = walk_fuel turns s (walk_at p) (within_start p) (omega arith)
 
 -- labels more or fewer, a name that is read is read
-still_good : (m : ℕ) (x : RecordNameRead) → is_good (more_labels m x) ≡ is_good x
-still_good m (Good r) = refl
-still_good m Bad = refl
+still_good : (m : ℕ) (x : Option RecordName) → is_good (more_labels m x) ≡ is_good x
+still_good m (Some r) = refl
+still_good m None = refl
 
 -- what a turn that goes on has met, as the number of pointers tells
 data Went (s : List ℕ) (w v : Walk) : Type 0 where
@@ -130,18 +121,18 @@ module _ (s : List ℕ) (w v : Walk) (b : Within w) (e : turn_at s w ≡ More v)
           let z : v.at ≡ w.at + (v.len - w.len) = omega (arith, ap (λ (u : Walk). u.at) f, ap (λ (u : Walk). u.len) f) in
           ap (part_of s w.at) z
 
-  over_good : v.pointers ≡ w.pointers → (r : RecordName) → record_name_here s v ≡ Good r → Labelled (added s w v)
+  over_good : v.pointers ≡ w.pointers → (r : RecordName) → record_name_here s v ≡ Some r → Labelled (added s w v)
   over_good n r g = over_label n (ended (left v) s v r (onward s w v b e).within g).inside
 
 -- a name that is read ends with its zero octet
-ends_zero : (k : ℕ) (s : List ℕ) (w : Walk) (r : RecordName) → record_name_from k s w ≡ Good r
+ends_zero : (k : ℕ) (s : List ℕ) (w : Walk) (r : RecordName) → record_name_from k s w ≡ Some r
     → (xs : List ℕ) × (expanded_from k s w ≡ xs ++ (0 ∷ []))
 unfolding record_name_from expanded_from
 ends_zero zero s w r e = absurd (let z : ◌≡◌ {A = ℕ} 0 1 = cc in omega arith)
 ends_zero (suc k) s w r e = go (turn_at s w) refl (λ v q. ends_zero k s v q)
   where
     go : (t : Turn) → turn_at s w ≡ t
-        → ((v : Walk) (q : RecordName) → record_name_from k s v ≡ Good q → (xs : List ℕ) × (expanded_from k s v ≡ xs ++ (0 ∷ [])))
+        → ((v : Walk) (q : RecordName) → record_name_from k s v ≡ Some q → (xs : List ℕ) × (expanded_from k s v ≡ xs ++ (0 ∷ [])))
         → (xs : List ℕ) × (expanded_from (suc k) s w ≡ xs ++ (0 ∷ []))
     go (More v) t i =
         let q = after_turn k s w v r e t in
@@ -150,7 +141,7 @@ ends_zero (suc k) s w r e = go (turn_at s w) refl (λ v q. ends_zero k s v q)
           rw t (ap (λ (l : List ℕ). added s w v ++ l) x.1 ∙ sym (append_assoc (added s w v) x.0 (0 ∷ []))),
         )
     go (End u) t i = ([], rw t)
-    go Wrong t i = absurd (let f : Bad ≡ Good r = rw t at e in let z : ◌≡◌ {A = ℕ} 0 1 = cc in omega arith)
+    go Wrong t i = absurd (let f : None ≡ Some r = rw t at e in let z : ◌≡◌ {A = ℕ} 0 1 = cc in omega arith)
 
 -- lists of one length, and what stands behind them
 same_join : (l m x y : List ℕ) → length l ≡ length m → same_name (l ++ x) (m ++ y) ≡ (same_name l m and same_name x y)
@@ -206,12 +197,12 @@ module _ (s : List ℕ) (a : Walk) (t : List ℕ) (b : Walk) (i : Within a) (j :
       rw (walk_more s a i v e, still_good (labels_taken a v) (record_name_here s v), walk_more t b j u f, still_good (labels_taken b u) (record_name_here t u), expand_more s a i v e, expand_more t b j u f)
       (go (record_name_here s v) (record_name_here t u) (over_good s a v i e n) (over_good t b u j f m))
     where
-      go : (x y : RecordNameRead) → ((r : RecordName) → x ≡ Good r → Labelled (added s a v)) → ((r : RecordName) → y ≡ Good r → Labelled (added t b u))
+      go : (x y : Option RecordName) → ((r : RecordName) → x ≡ Some r → Labelled (added s a v)) → ((r : RecordName) → y ≡ Some r → Labelled (added t b u))
           → (is_good x and is_good y and same_name (added s a v ++ expanded_here s v) (added t b u ++ expanded_here t u))
           ≡ (same_name (added s a v) (added t b u) and is_good x and is_good y and same_name (expanded_here s v) (expanded_here t u))
-      go Bad y p q = sym (cond_same (same_name (added s a v) (added t b u)) false)
-      go (Good r) Bad p q = sym (cond_same (same_name (added s a v) (added t b u)) false)
-      go (Good r) (Good k) p q =
+      go None y p q = sym (cond_same (same_name (added s a v) (added t b u)) false)
+      go (Some r) None p q = sym (cond_same (same_name (added s a v) (added t b u)) false)
+      go (Some r) (Some k) p q =
           let l = p r refl in
           let m = q k refl in
           rw (l.is, m.is)
@@ -224,10 +215,10 @@ module _ (s : List ℕ) (a : Walk) (t : List ℕ) (b : Walk) (i : Within a) (j :
       rw (walk_more s a i v e, still_good (labels_taken a v) (record_name_here s v), walk_end t b j r f, expand_more s a i v e, expand_end t b j r f)
       (go (record_name_here s v) (over_good s a v i e n))
     where
-      go : (x : RecordNameRead) → ((r : RecordName) → x ≡ Good r → Labelled (added s a v))
+      go : (x : Option RecordName) → ((r : RecordName) → x ≡ Some r → Labelled (added s a v))
           → (is_good x and same_name (added s a v ++ expanded_here s v) (0 ∷ [])) ≡ false
-      go Bad p = refl
-      go (Good r) p = let l = p r refl in rw l.is (label_not_root _ _ l.some l.short)
+      go None p = refl
+      go (Some r) p = let l = p r refl in rw l.is (label_not_root _ _ l.some l.short)
 
   same_second_wrong : turn_at t b ≡ Wrong → same_here s a t b ≡ false
   same_second_wrong f = rw (walk_wrong t b j f) (cond_same (is_good (record_name_here s a)) false)
@@ -240,10 +231,10 @@ module _ (s : List ℕ) (a : Walk) (t : List ℕ) (b : Walk) (i : Within a) (j :
   same_root r e =
       rw (walk_end s a i r e, expand_end s a i r e, walk_fuel turns t b j (omega arith)) (go (record_name_here t b) refl)
     where
-      go : (y : RecordNameRead) → record_name_here t b ≡ y
+      go : (y : Option RecordName) → record_name_here t b ≡ y
           → (is_good y and same_name (0 ∷ []) (expanded_here t b)) ≡ one_more y b.len
-      go Bad f = refl
-      go (Good k) f =
+      go None f = refl
+      go (Some k) f =
           let l : k.len ≡ b.len + length (expanded_here t b) = (ended (left b) t b k j f).length_is in
           let z = ends_zero (left b) t b k f in
           split
@@ -252,12 +243,6 @@ module _ (s : List ℕ) (a : Walk) (t : List ℕ) (b : Walk) (i : Within a) (j :
           (λ g.
           let n : 1 ≡ length (expanded_here t b) → ⊥ = λ h. eqb-false k.len (b.len + 1) g (omega arith) in
           rw g (unequal_lengths (0 ∷ []) (expanded_here t b) n))
-
--- a turn with which a walk ends
-abbrev pub Ends : Turn → Type 0
-Ends (More v) = ⊥
-Ends (End r) = Unit
-Ends Wrong = Unit
 
 -- The names at p and q are the same if what is left of them from two walks on is.
 pub record Compared (s : List ℕ) (p : ℕ) (t : List ℕ) (q : ℕ) (a b : Walk) : Type 0 where
@@ -269,46 +254,62 @@ pub compared_start : (s : List ℕ) (p : ℕ) (t : List ℕ) (q : ℕ) (a b : Wa
 compared_start s p t q a b e f =
     record { first = starts_within p a e; second = starts_within q b f; same = same_start s p t q a b e f }
 
+-- x and y are the turns of the two walks
 module _ {s : List ℕ} {p : ℕ} {t : List ℕ} {q : ℕ} {a b : Walk} (c : Compared s p t q a b) where
-  pub compared_first : {v : Walk} → turn_at s a ≡ More v → (v.pointers ≡ a.pointers → ⊥) → Compared s p t q v b
-  compared_first {v} e n =
-      record { first = (onward s a v c.first e).within; second = c.second; same = c.same ∙ same_first s a t b c.first c.second v e n }
+  module _ {x : Turn} (e : x ≡ turn_at s a) where
+    pub compared_ends : {r : Bool} → ((v : Walk) → x ≡ More v → ⊥) → r ≡ (is_end x and ends_from t b) → r ≡ same_record_name s p t q
+    compared_ends n f = f ∙ go x refl
+      where
+        go : (y : Turn) → x ≡ y → (is_end x and ends_from t b) ≡ same_record_name s p t q
+        go (More v) f = absurd (n v f)
+        go (End r) f = rw f (sym (c.same ∙ same_root s a t b c.first c.second r (sym e ∙ f)))
+        go Wrong f = rw f (sym (c.same ∙ same_first_wrong s a t b c.first c.second (sym e ∙ f)))
 
-  pub compared_second : {u : Walk} → turn_at t b ≡ More u → (u.pointers ≡ b.pointers → ⊥) → Compared s p t q a u
-  compared_second {u} f n =
-      record { first = c.first; second = (onward t b u c.second f).within; same = c.same ∙ same_second s a t b c.first c.second u f n }
+    module _ {v : Walk} (f : x ≡ More v) where
+      pub nearer_first : left v < left a
+      nearer_first = (onward s a v c.first (sym e ∙ f)).nearer
 
-  pub compared_ends : (x : Turn) → turn_at s a ≡ x → Ends x → (is_end x and ends_from t b) ≡ same_record_name s p t q
-  compared_ends (More v) e n = absurd n
-  compared_ends (End r) e n = sym (c.same ∙ same_root s a t b c.first c.second r e)
-  compared_ends Wrong e n = sym (c.same ∙ same_first_wrong s a t b c.first c.second e)
+      pub compared_first : (v.pointers ≡ a.pointers → ⊥) → Compared s p t q v b
+      compared_first n =
+          record { first = (onward s a v c.first (sym e ∙ f)).within; second = c.second; same = c.same ∙ same_first s a t b c.first c.second v (sym e ∙ f) n }
 
-  module _ {v : Walk} (e : turn_at s a ≡ More v) (n : v.pointers ≡ a.pointers) where
-    pub compared_apart : (y : Turn) → turn_at t b ≡ y → Ends y → false ≡ same_record_name s p t q
-    compared_apart (More u) f m = absurd m
-    compared_apart (End r) f m = sym (c.same ∙ same_label_root s a t b c.first c.second v r e n f)
-    compared_apart Wrong f m = sym (c.same ∙ same_second_wrong s a t b c.first c.second f)
+  module _ {y : Turn} (g : y ≡ turn_at t b) {u : Walk} (h : y ≡ More u) where
+    pub nearer_second : left u < left b
+    nearer_second = (onward t b u c.second (sym g ∙ h)).nearer
 
-    module _ {u : Walk} (f : turn_at t b ≡ More u) (m : u.pointers ≡ b.pointers) where
-      both : same_record_name s p t q ≡ (same_name (added s a v) (added t b u) and same_here s v t u)
-      both = c.same ∙ same_labels_on s a t b c.first c.second v u e f n m
+    pub compared_second : (u.pointers ≡ b.pointers → ⊥) → Compared s p t q a u
+    compared_second n =
+        record { first = c.first; second = (onward t b u c.second (sym g ∙ h)).within; same = c.same ∙ same_second s a t b c.first c.second u (sym g ∙ h) n }
 
-      -- r tells whether the two labels are the same
-      module _ {xs ys : List ℕ} {r : Bool} (g : xs ≡ part_of s a.at v.at) (h : ys ≡ part_of t b.at u.at)
-          (k : r ≡ same_name xs ys) where
-        told : {o : Bool} → r ≡ o → same_name (added s a v) (added t b u) ≡ o
-        told w =
-            let x : added s a v ≡ xs = sym (g ∙ label_to s a v c.first e n) in
-            let y : added t b u ≡ ys = sym (h ∙ label_to t b u c.second f m) in
-            ap (λ (l : List ℕ). same_name l (added t b u)) x ∙ ap (same_name xs) y ∙ sym k ∙ w
+  module _ {x y : Turn} {v : Walk} (e : x ≡ turn_at s a) (f : x ≡ More v) (n : v.pointers ≡ a.pointers) (g : y ≡ turn_at t b) where
+    pub compared_apart : ((u : Walk) → y ≡ More u → ⊥) → false ≡ same_record_name s p t q
+    compared_apart m = go y refl
+      where
+        go : (z : Turn) → y ≡ z → false ≡ same_record_name s p t q
+        go (More u) h = absurd (m u h)
+        go (End r) h = sym (c.same ∙ same_label_root s a t b c.first c.second v r (sym e ∙ f) n (sym g ∙ h))
+        go Wrong h = sym (c.same ∙ same_second_wrong s a t b c.first c.second (sym g ∙ h))
 
-        pub compared_labels : r ≡ true → Compared s p t q v u
-        compared_labels w =
-            record {
-              first = (onward s a v c.first e).within;
-              second = (onward t b u c.second f).within;
-              same = both ∙ rw (told w);
-            }
+    -- r tells whether the two labels are the same
+    module _ {u : Walk} (h : y ≡ More u) (m : u.pointers ≡ b.pointers) {xs ys : List ℕ} {r : Bool} (k : xs ≡ part_of s a.at v.at)
+        (l : ys ≡ part_of t b.at u.at) (o : r ≡ same_name xs ys) where
+      told : {w : Bool} → r ≡ w → same_record_name s p t q ≡ (w and same_here s v t u)
+      told {w} i =
+          let d : added s a v ≡ xs = sym (k ∙ label_to s a v c.first (sym e ∙ f) n) in
+          let z : added t b u ≡ ys = sym (l ∙ label_to t b u c.second (sym g ∙ h) m) in
+          c.same
+          ∙ same_labels_on s a t b c.first c.second v u (sym e ∙ f) (sym g ∙ h) n m
+          ∙ rw (d, z, sym o, i)
 
-        pub compared_unlike : r ≡ false → false ≡ same_record_name s p t q
-        compared_unlike w = sym (both ∙ rw (told w))
+      pub compared_labels : r ≡ true → Compared s p t q v u
+      compared_labels i =
+          record {
+            first = (onward s a v c.first (sym e ∙ f)).within;
+            second = (onward t b u c.second (sym g ∙ h)).within;
+            same = told i;
+          }
+
+      pub compared_unlike : r ≡ false → false ≡ same_record_name s p t q
+      compared_unlike i = sym (told i)
+
+pub ruleset compared = (compared_start, nearer_first, nearer_second, compared_first, compared_second, compared_ends, compared_apart, compared_labels, compared_unlike)

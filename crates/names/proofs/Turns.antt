@@ -1,19 +1,12 @@
 -- Laws of one turn over a record's name: what it meets, and the labels that it takes.
-use Prim.Native.Nat.{ℕ, suc, ◌+◌, ◌<◌, ◌≤◌}
-use mathlib.Core.Path.{◌≡◌, refl, sym, ap}
-use mathlib.Core.List.{List}
-use native.Mathlib.Omega.{arith}
-use lib.Dec.{ltb, leb, eqb}
-use lib.ListN.{length}
-use borrow.Author.Tests.{eq-eqb, ne_eqb, le-ltb, le-leb, lt-leb, eqb-true, eqb-false, ltb-false, leb-true, leb-false}
+use Rattle.std.proofs.Common.{None, Option, Some, ℕ, suc, ◌+◌, ◌<◌, ◌≤◌, ◌≡◌, refl, sym, ap, List, arith, ltb, leb, eqb, length, eq-eqb, ne_eqb, le-ltb, le-leb, eqb-true, ltb-false, leb-true, leb-false}
+use Rattle.std.proofs.lemmas.Bool.{lt-leb, eqb-false}
 use Rattle.octets.specs.Octets.{octet_at}
 use Rattle.octets.proofs.Tests.{split}
 use Rattle.names.specs.Bounds.{longest_label, longest_name, most_pointers, least_target, pointer_mark}
 use Rattle.names.specs.declared.Walk.{Walk}
 use Rattle.names.specs.declared.Turn.TheVariants.{More, End, Wrong}
 use Rattle.names.specs.declared.RecordName.{RecordName}
-use Rattle.names.specs.declared.RecordNameRead.{RecordNameRead}
-use Rattle.names.specs.declared.RecordNameRead.TheVariants.{Good, Bad}
 use Rattle.names.specs.RecordNameWalk.{target, at_root, past_label, followed, turn_at, more_labels, labels_taken, record_name_from}
 
 -- what a turn meets
@@ -86,29 +79,29 @@ root_none s w r e = go (met s w)
     go (jump h g i j m) = absurd (let z : ◌≡◌ {A = ℕ} 0 1 = cc (turn_jump s w h g i j m) in omega arith)
 
 -- labels more, and more again
-pub more_none : (x : RecordNameRead) → more_labels 0 x ≡ x
-more_none (Good r) =
+pub more_none : (x : Option RecordName) → more_labels 0 x ≡ x
+more_none (Some r) =
     let z : 0 + r.labels ≡ r.labels = omega arith in
-    ap (λ (k : ℕ). Good (record { next = r.next; len = r.len; pointers = r.pointers; labels = k })) z
-more_none Bad = refl
+    ap (λ (k : ℕ). Some (record { next = r.next; len = r.len; pointers = r.pointers; labels = k })) z
+more_none None = refl
 
-pub more_again : (l m : ℕ) (x : RecordNameRead) → more_labels l (more_labels m x) ≡ more_labels (l + m) x
-more_again l m (Good r) =
+pub more_again : (l m : ℕ) (x : Option RecordName) → more_labels l (more_labels m x) ≡ more_labels (l + m) x
+more_again l m (Some r) =
     let z : l + (m + r.labels) ≡ l + m + r.labels = omega arith in
-    ap (λ (k : ℕ). Good (record { next = r.next; len = r.len; pointers = r.pointers; labels = k })) z
-more_again l m Bad = refl
+    ap (λ (k : ℕ). Some (record { next = r.next; len = r.len; pointers = r.pointers; labels = k })) z
+more_again l m None = refl
 
 -- a name that is read with m labels more is read without them
-pub record Without (m : ℕ) (x : RecordNameRead) (r : RecordName) : Type 0 where
+pub record Without (m : ℕ) (x : Option RecordName) (r : RecordName) : Type 0 where
   pub fewer : RecordName
-  pub is : x ≡ Good fewer
+  pub is : x ≡ Some fewer
   pub next_is : r.next ≡ fewer.next
   pub len_is : r.len ≡ fewer.len
   pub pointers_are : r.pointers ≡ fewer.pointers
   pub labels_are : r.labels ≡ m + fewer.labels
 
-without : (m : ℕ) (x : RecordNameRead) (r : RecordName) → more_labels m x ≡ Good r → Without m x r
-without m (Good q) r e =
+without : (m : ℕ) (x : Option RecordName) (r : RecordName) → more_labels m x ≡ Some r → Without m x r
+without m (Some q) r e =
     let f : ◌≡◌ {A = RecordName} (record { next = q.next; len = q.len; pointers = q.pointers; labels = m + q.labels }) r = cc in
     record {
       fewer = q;
@@ -118,10 +111,10 @@ without m (Good q) r e =
       pointers_are = sym (ap (λ (n : RecordName). n.pointers) f);
       labels_are = sym (ap (λ (n : RecordName). n.labels) f);
     }
-without m Bad r e = absurd (let z : ◌≡◌ {A = ℕ} 0 1 = cc in omega arith)
+without m None r e = absurd (let z : ◌≡◌ {A = ℕ} 0 1 = cc in omega arith)
 
 -- so it is with a name that is read, after a turn that goes on
-pub after_turn : (k : ℕ) (s : List ℕ) (w v : Walk) (r : RecordName) → record_name_from (suc k) s w ≡ Good r → turn_at s w ≡ More v
+pub after_turn : (k : ℕ) (s : List ℕ) (w v : Walk) (r : RecordName) → record_name_from (suc k) s w ≡ Some r → turn_at s w ≡ More v
     → Without (labels_taken w v) (record_name_from k s v) r
 unfolding record_name_from
 after_turn k s w v r e t = without (labels_taken w v) (record_name_from k s v) r (rw t at e)

@@ -1,6 +1,6 @@
 -- Equality of the names of two records, each with or without pointers, in one message or two. A name that cannot be read equals nothing, not
 -- even itself. Two that can be read are equal if their expanded names are.
-use Rattle.std.specs.Prelude.{ℕ, ◌+◌, ◌≡◌, List, Bool, true, false, eqb}
+use Rattle.std.specs.Prelude.{ℕ, ◌+◌, ◌≡◌, List, Bool, true, false, eqb, None, Option, Some}
 use Rattle.octets.specs.Tests.{◌and◌}
 use Rattle.names.specs.Folding.{folded_name, same_name}
 use Rattle.names.specs.Readings.{labels, ReadingAt}
@@ -8,14 +8,12 @@ use Rattle.names.specs.declared.Walk.{Walk}
 use Rattle.names.specs.declared.Turn.{Turn}
 use Rattle.names.specs.declared.Turn.TheVariants.{More, End, Wrong}
 use Rattle.names.specs.declared.RecordName.{RecordName}
-use Rattle.names.specs.declared.RecordNameRead.{RecordNameRead}
-use Rattle.names.specs.declared.RecordNameRead.TheVariants.{Good, Bad}
 use Rattle.names.specs.RecordNameWalk.{record_name_from, turns, record_name_at, expanded_at}
 
 -- the reader has found a name
-abbrev pub is_good : RecordNameRead → Bool
-is_good (Good r) = true
-is_good Bad = false
+abbrev pub is_good : Option RecordName → Bool
+is_good (Some r) = true
+is_good None = false
 
 -- the name at p of s equals the name at q of t
 unfoldable pub same_record_name : List ℕ → ℕ → List ℕ → ℕ → Bool
@@ -37,9 +35,9 @@ is_end (End r) = true
 is_end Wrong = false
 
 -- and of the other one octet is left, after so many.
-abbrev pub one_more : RecordNameRead → ℕ → Bool
-one_more (Good r) n = eqb r.len (n + 1)
-one_more Bad n = false
+abbrev pub one_more : Option RecordName → ℕ → Bool
+one_more (Some r) n = eqb r.len (n + 1)
+one_more None n = false
 
 abbrev pub ends_from : List ℕ → Walk → Bool
 ends_from s w = one_more (record_name_from turns s w) w.len

@@ -1,5 +1,5 @@
 -- The reading of a record's name, turn by turn, to be computed. What it means: specs/Readings.antt.
-use Rattle.std.specs.Prelude.{ℕ, zero, suc, ◌+◌, ◌-◌, ◌*◌, List, [], ◌∷◌, ◌++◌, cond, length, ltb, leb, eqb}
+use Rattle.std.specs.Prelude.{ℕ, zero, suc, ◌+◌, ◌-◌, ◌*◌, List, [], ◌∷◌, ◌++◌, cond, length, ltb, leb, eqb, None, Option, Some}
 use Rattle.octets.specs.Octets.{octet_at, part_of}
 use Rattle.octets.specs.Words.{big_at}
 use Rattle.names.specs.Bounds.{longest_label, longest_name, most_pointers, least_target, pointer_mark}
@@ -7,8 +7,6 @@ use Rattle.names.specs.declared.Walk.{Walk}
 use Rattle.names.specs.declared.Turn.{Turn}
 use Rattle.names.specs.declared.Turn.TheVariants.{More, End, Wrong}
 use Rattle.names.specs.declared.RecordName.{RecordName}
-use Rattle.names.specs.declared.RecordNameRead.{RecordNameRead}
-use Rattle.names.specs.declared.RecordNameRead.TheVariants.{Good, Bad}
 
 -- the target of the pointer at p
 abbrev pub target : List ℕ → ℕ → ℕ
@@ -51,22 +49,22 @@ turn_at s w =
     (pointer_turn s w))))
 
 -- a reading with so many labels more
-abbrev pub more_labels : ℕ → RecordNameRead → RecordNameRead
-more_labels m (Good r) = Good (record { next = r.next; len = r.len; pointers = r.pointers; labels = m + r.labels })
-more_labels m Bad = Bad
+abbrev pub more_labels : ℕ → Option RecordName → Option RecordName
+more_labels m (Some r) = Some (record { next = r.next; len = r.len; pointers = r.pointers; labels = m + r.labels })
+more_labels m None = None
 
 -- a turn from w to v takes a label if it follows no pointer
 abbrev pub labels_taken : Walk → Walk → ℕ
 labels_taken w v = cond (eqb v.pointers w.pointers) 1 0
 
-abbrev pub on_turn : Walk → Turn → (Walk → RecordNameRead) → RecordNameRead
+abbrev pub on_turn : Walk → Turn → (Walk → Option RecordName) → Option RecordName
 on_turn w (More v) rest = more_labels (labels_taken w v) (rest v)
-on_turn w (End r) rest = Good r
-on_turn w Wrong rest = Bad
+on_turn w (End r) rest = Some r
+on_turn w Wrong rest = None
 
 -- at most k turns; the labels are those from w on
-unfoldable pub record_name_from : ℕ → List ℕ → Walk → RecordNameRead
-record_name_from zero s w = Bad
+unfoldable pub record_name_from : ℕ → List ℕ → Walk → Option RecordName
+record_name_from zero s w = None
 record_name_from (suc k) s w = on_turn w (turn_at s w) (record_name_from k s)
 
 abbrev pub walk_at : ℕ → Walk
@@ -77,7 +75,7 @@ abbrev pub turns : ℕ
 turns = longest_name + most_pointers
 
 -- the record's name at an offset
-abbrev pub record_name_at : List ℕ → ℕ → RecordNameRead
+abbrev pub record_name_at : List ℕ → ℕ → Option RecordName
 record_name_at s at = record_name_from turns s (walk_at at)
 
 -- the octets that a turn adds to the expanded name: those of its label, none for a pointer
@@ -90,9 +88,9 @@ unfoldable pub expanded_from : ℕ → List ℕ → Walk → List ℕ
 expanded_from zero s w = []
 expanded_from (suc k) s w = on_expand s w (turn_at s w) (expanded_from k s)
 
-abbrev pub if_good : RecordNameRead → List ℕ → List ℕ
-if_good (Good r) xs = xs
-if_good Bad xs = []
+abbrev pub if_good : Option RecordName → List ℕ → List ℕ
+if_good (Some r) xs = xs
+if_good None xs = []
 
 -- the octets of the expanded name at an offset; none if it is not readable
 unfoldable pub expanded_at : List ℕ → ℕ → List ℕ

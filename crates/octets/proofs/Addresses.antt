@@ -1,15 +1,8 @@
 -- What the tests of addresses say, plainly.
-use Prim.Native.Nat.{ℕ, suc, zero, ◌<◌, ◌≤◌}
-use mathlib.Core.Path.{◌≡◌, refl, sym, ◌∙◌, subst}
-use mathlib.Core.List.{List, [], ◌∷◌}
-use mathlib.Core.Bool.{true, false}
+use Rattle.std.proofs.Common.{ℕ, suc, zero, ◌<◌, ◌≤◌, ◌≡◌, refl, sym, ◌∙◌, subst, List, [], ◌∷◌, true, false, ◌↔◌, ◌⊎◌, inl, inr, ⊎_elim, arith, length, get_or, take, take_all, ltb, eqb, eq-eqb, ne_eqb, ltb-true, ltb-false, eqb-true}
+use Rattle.std.proofs.lemmas.Bool.{eqb-false}
 use mathlib.Core.Logic.Iff
-use mathlib.Core.Logic.{◌↔◌, ◌⊎◌, inl, inr, ⊎_elim}
-use native.Mathlib.Omega.{arith}
-use lib.ListN.{length, get_or, take, length-take}
-use lib.Seq.{take_all}
-use lib.Dec.{ltb, eqb}
-use borrow.Author.Tests.{eq-eqb, ne_eqb, ltb-true, ltb-false, eqb-true, eqb-false}
+use Rattle.octets.proofs.Comparisons.{one_length}
 use Rattle.octets.proofs.Octets.{joined}
 use Rattle.octets.proofs.Tests.{split, both, either, either_way, never, same_number, below_number}
 use Rattle.octets.specs.Bounds.{ipv4, used_by6, interfaces}
@@ -125,7 +118,7 @@ module _ (a b : Address) (e : a.family ≡ b.family) (l : length a.octets ≡ le
   pub addresses_ordered : (same_address a b ≡ true) ⊎ (below_address a b ≡ true) ⊎ (below_address b a ≡ true)
   unfolding below_address
   addresses_ordered =
-      let k : length (used_octets a) ≡ length (used_octets b) = rw (length-take, length-take, l, e) in
+      let k : length (used_octets a) ≡ length (used_octets b) = one_length a b e l in
       ⊎_elim
       (λ q. inl ((same_address_lem a b).1 (e, q)))
       (⊎_elim (λ q. inr (inl (rw (eq-eqb _ _ e) q))) (λ q. inr (inr (rw (eq-eqb _ _ (sym e)) q))))

@@ -5,4 +5,4 @@ pub mod Splice
 pub mod Words
 pub mod Addresses
 pub mod PlainAddresses
-pub mod Turns
+pub mod Comparisons

@@ -1,11 +1,6 @@
 -- The groups' addresses and our own, in the plain words of specs/PlainAddresses.antt.
-use Prim.Native.Nat.{ℕ}
-use mathlib.Core.Path.{◌≡◌, refl, sym, ◌∙◌}
+use Rattle.std.proofs.Common.{ℕ, ◌≡◌, refl, sym, ◌∙◌, ◌↔◌, ◌⊎◌, inl, inr, ⊎_elim, List, true, arith}
 use mathlib.Core.Logic.Iff
-use mathlib.Core.Logic.{◌↔◌, ◌⊎◌, inl, inr, ⊎_elim}
-use mathlib.Core.List.{List}
-use mathlib.Core.Bool.{true}
-use native.Mathlib.Omega.{arith}
 use Rattle.octets.specs.Addresses.{group_of, is_group, group_endpoint, address_of, has_address, is_ours}
 use Rattle.octets.specs.PlainAddresses.{IsGroup, is_group_4, is_group_6, GroupEndpoint, group_4, group_6, IsOf, is_4, is_6, IsOneOfOurs}
 use Rattle.octets.specs.declared.Address.{Address}

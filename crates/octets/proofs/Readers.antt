@@ -1,6 +1,5 @@
 -- Readers: one that finds exactly what stands there finds nothing exactly if nothing does.
-use mathlib.Core.Path.{◌≡◌, sym, ◌∙◌}
-use mathlib.Core.Logic.{◌↔◌, ◌⊎◌, ⊎_elim}
+use Rattle.std.proofs.Common.{◌≡◌, sym, ◌∙◌, ◌↔◌, ◌⊎◌, ⊎_elim}
 
 -- x is what a reader answers, good or bad; P tells what stands there
 pub finds_none : {A R : Type 0} {good : A → R} {bad x : R} {P : A → Type 0} → ((a : A) → (x ≡ good a) ↔ P a)

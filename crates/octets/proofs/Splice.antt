@@ -1,15 +1,8 @@
 -- Laws of octets written over others.
-use Prim.Native.Nat.{ℕ, ◌+◌, ◌-◌, ◌<◌, ◌≤◌}
-use mathlib.Core.Path.{◌≡◌, sym, ap, ◌∙◌}
-use mathlib.Core.List.{List, [], ◌∷◌, ◌++◌, append_assoc, append-nil}
-use native.Mathlib.Omega.{arith}
-use native.Mathlib.Nat.{zero-add, add_assoc}
-use native.Mathlib.Numerals.{add-one}
-use lib.Dec.{ltb}
-use lib.ListN.{length, get_or, take, drop, set, length-append, length-drop, get_or-append}
-use lib.Seq.{take-append_seam, sets-eq, paste, paste-suc, paste-zero, take-length, take_at, drop_at, drop-drop, take_all, drop-length, length-take-le, get_or-drop, get_or-take}
+use Rattle.std.proofs.Common.{ℕ, ◌+◌, ◌-◌, ◌<◌, ◌≤◌, ◌≡◌, sym, ap, ◌∙◌, List, [], ◌∷◌, ◌++◌, append_assoc, append-nil, arith, zero-add, add_assoc, add-one, ltb, length, get_or, take, drop, set, length-append, length-drop, take_at, drop_at, drop-drop, take_all, length-take-le, get_or-drop, get_or-take, lt-ltb, le-ltb, ltb-true, ltb-false}
+use Rattle.std.proofs.Math.ListN.{get_or-append}
+use Rattle.std.proofs.Math.Seq.{take-append_seam, sets-eq, paste, paste-zero, take-length, drop-length}
 use borrow.Rule.Slice.PartMut.{mid_of, put_mid}
-use borrow.Author.Tests.{lt-ltb, le-ltb, ltb-true, ltb-false}
 use Rattle.octets.proofs.Tests.{split, cond_same}
 use Rattle.octets.proofs.Octets.{octets_append, octets_take, octets_drop}
 use Rattle.octets.specs.Octets.{Octets, splice, put}
@@ -83,17 +76,10 @@ pub part_next : (out xs ys b y : List ℕ) (at : ℕ) → at ≡ length xs → b
     → y ≡ splice (mid_of at (length b - at) b) 0 ys → put_mid at (length b - at) b y ≡ splice out 0 (xs ++ ys)
 part_next out xs ys b y at a e h w = part_after out xs ys b y 0 at (omega arith) e h w
 
--- a copy of all of src, and a turn of the loop that copies
+-- a copy of all of src
 pub paste_all : (d src : List ℕ) (i : ℕ) → i ≡ length src → paste d 0 src i ≡ splice d 0 src
 unfolding splice
 paste_all d src i e = rw (e, take-length src)
-
-pub paste_more : (d₀ src d : List ℕ) (i : ℕ) → i < length d₀ → i < length src → d ≡ paste d₀ 0 src i
-    → set d i (get_or src i 0) ≡ paste d₀ 0 src (i + 1)
-paste_more d₀ src d i h k e =
-    let j : 0 + i < length d₀ = omega arith in
-    let z : i ≡ 0 + i = omega arith in
-    rw (e, add-one) (ap (λ (n : ℕ). set (paste d₀ 0 src i) n (get_or src i 0)) z ∙ paste-suc d₀ 0 src i 0 j k)
 
 -- a write that does not fit, and one that does
 pub put_out : (d : List ℕ) (at : ℕ) (xs : List ℕ) → length d < at + length xs → put d at xs ≡ d

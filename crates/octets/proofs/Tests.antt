@@ -1,12 +1,8 @@
 -- Laws of tests.
-use Prim.Native.Nat.{ℕ, ◌<◌, ◌≤◌}
-use native.Mathlib.Omega.{arith}
-use lib.Dec.{ltb, leb, eqb}
-use borrow.Author.Tests.{eqb-true, eq-eqb, ltb-true, lt-ltb, ltb-false, le-ltb, leb-true, le-leb, leb-false, lt-leb}
-use mathlib.Core.Path.{◌≡◌, refl}
+use Rattle.std.proofs.Common.{ℕ, ◌<◌, ◌≤◌, arith, ltb, leb, eqb, eqb-true, eq-eqb, ltb-true, lt-ltb, ltb-false, le-ltb, leb-true, le-leb, leb-false, ◌≡◌, refl, ◌↔◌, ◌≢◌, ◌⊎◌, inl, inr, ⊎_elim, Bool, true, false, cond, not}
+use Rattle.std.proofs.lemmas.Bool.{lt-leb}
+use Rattle.std.proofs.Math.Logic.{⊎_map}
 use mathlib.Core.Logic.Iff
-use mathlib.Core.Logic.{◌↔◌, ◌≢◌, ◌⊎◌, inl, inr, ⊎_elim, ⊎_map}
-use mathlib.Core.Bool.{Bool, true, false, cond, not}
 use Rattle.octets.specs.Tests.{◌and◌, ◌or◌}
 
 -- a test, either way

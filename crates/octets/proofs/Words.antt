@@ -1,12 +1,6 @@
 -- Laws of words.
-use Prim.Native.Nat.{ℕ, suc, ◌+◌, ◌/◌, ◌%◌, ◌<◌, ◌≤◌}
-use mathlib.Core.Path.{◌≡◌, sym, ◌∙◌}
-use mathlib.Core.List.{List, [], ◌∷◌, ◌++◌}
-use native.Mathlib.Omega.{arith}
-use native.Mathlib.Nat.{add-zero, add_assoc}
-use native.Mathlib.Numerals.{add-one}
-use lib.ListN.{length, take, drop, get_or-eq_default}
-use lib.Seq.{drop-cons, get_or-drop}
+use Rattle.std.proofs.Common.{ℕ, suc, ◌+◌, ◌/◌, ◌%◌, ◌<◌, ◌≤◌, ◌≡◌, sym, ◌∙◌, List, [], ◌∷◌, ◌++◌, arith, add-zero, add_assoc, add-one, length, take, drop, drop-cons, get_or-drop}
+use Rattle.std.proofs.Math.ListN.{get_or-eq_default}
 use Rattle.octets.proofs.Octets.{octet_at_lem}
 use Rattle.octets.proofs.Splice.{put_there}
 use Rattle.octets.specs.Octets.{Octets, octet_at, put}

@@ -1,127 +1,114 @@
-// Octets in slices, 16-bit words, and addresses. Every function is total: an octet past the end reads as 0, and a write that
-// does not fit changes nothing.
+// Octets in slices, 16-bit words, and addresses. Every function is total: an octet past the end
+// reads as 0, and a write that does not fit changes nothing.
 #![tactic(auto)]
 
-ghost use Rattle.std.specs.Prelude.{◌≡◌, [], ◌∷◌, ◌≤◌, length};
-ghost use Rattle.octets.specs.Bounds.{used_by6};
+ghost use Rattle.std.specs.Prelude.{◌≡◌, ◌+◌, ◌≤◌, [], ◌∷◌, length};
 ghost use Rattle.octets.specs.Octets.{octet_at, runs_past, part_of, splice, put};
 ghost use Rattle.octets.specs.Words.{big_at, little_at, big_octets, little_octets};
-ghost use Rattle.octets.specs.Addresses.{is_family, used_by, same_address, below_address, group_of, group_endpoint, is_group, has_address, is_ours};
+ghost use Rattle.octets.specs.Addresses.{is_family, used_octets, same_address, below_address, group_of, group_endpoint, is_group, address_of, has_address, is_ours};
 
-// Whether n octets from an offset on run past the end of a slice of so many octets.
+/// Whether `n` octets from the offset `at` on run past the end of a slice of `size` octets.
 pub fn runs_past(size: usize, at: usize, n: usize) -> bool
     ensures { result ≡ runs_past size at n }
 {
-    if size < at {
-        return true;
-    }
-    if size - at < n { true } else { false }
+    size < at || size - at < n
 }
 
-// The part of a slice from a up to e; an empty one where these are not the bounds of a part.
+/// The octets of `s` from `a` up to `e`; none where these are not the bounds of a part.
+#[tactic(auto, unfolding(crate::specs::Octets::part_of))]
 pub fn part(s: &[u8], a: usize, e: usize) -> &[u8]
     ensures { result.now ≡ part_of s.now a e }
 {
-    if e < a {
-        return &s[0..0];
-    }
-    if s.len() < e {
-        return &s[0..0];
-    }
-    &s[a..e]
+    s.get(a..e).unwrap_or(&[])
 }
 
-// The octet at an offset.
+/// The octet at an offset.
 pub fn octet(s: &[u8], at: usize) -> u8
     ensures { result ≡ octet_at s.now at }
 {
-    if at < s.len() { s[at] } else { 0 }
+    s.get(at).copied().unwrap_or(0)
 }
 
-// The big-endian word at an offset.
+fn pair(s: &[u8], at: usize) -> [u8; 2]
+    ensures { result ≡ octet_at s.now at ∷ octet_at s.now (at + 1) ∷ [] }
+{
+    let rest = s.get(at..).unwrap_or(&[]);
+    [octet(rest, 0), octet(rest, 1)]
+}
+
+/// The big-endian word at an offset.
 pub fn big(s: &[u8], at: usize) -> u16
     ensures { result ≡ big_at s.now at }
 {
-    if s.len() <= at {
-        return 0;
-    }
-    (octet(s, at) as u16) * 256 + (octet(s, at + 1) as u16)
+    u16::from_be_bytes(pair(s, at))
 }
 
-// The little-endian word at an offset.
+/// The little-endian word at an offset.
 pub fn little(s: &[u8], at: usize) -> u16
     ensures { result ≡ little_at s.now at }
 {
-    if s.len() <= at {
-        return 0;
-    }
-    (octet(s, at) as u16) + (octet(s, at + 1) as u16) * 256
+    u16::from_le_bytes(pair(s, at))
 }
 
-fn put_pair(s: &mut [u8], at: usize, a: u8, b: u8)
-    ensures { s.new ≡ put s.old at (a ∷ b ∷ []) }
-{
-    if runs_past(s.len(), at, 2) {
-        return;
-    }
-    s[at] = a;
-    s[at + 1] = b;
-}
-
-// Writes a big-endian word at an offset.
+/// Writes a big-endian word at an offset.
 pub fn put_big(s: &mut [u8], at: usize, v: u16)
     ensures { s.new ≡ put s.old at (big_octets v) }
 {
-    put_pair(s, at, (v / 256) as u8, (v % 256) as u8);
+    put_octets(s, at, &v.to_be_bytes());
 }
 
-// Writes a little-endian word at an offset.
+/// Writes a little-endian word at an offset.
 pub fn put_little(s: &mut [u8], at: usize, v: u16)
     ensures { s.new ≡ put s.old at (little_octets v) }
 {
-    put_pair(s, at, (v % 256) as u8, (v / 256) as u8);
+    put_octets(s, at, &v.to_le_bytes());
 }
 
-fn copy(d: &mut [u8], src: &[u8])
-    requires { length src.now ≤ length d.old }
-    ensures { d.new ≡ splice d.old 0 src.now }
+fn copy(out: &mut [u8], src: &[u8])
+    requires { length src.now ≤ length out.old }
+    ensures { out.new ≡ splice out.old 0 src.now }
 {
-    let mut i = 0;
-    while i < src.len() {
-        d[i] = src[i];
-        i = i + 1;
+    // A loop, since `copy_from_slice` calls `memmove`: by README the library for C needs nothing
+    // but `memcpy` and `memset`.
+    for (i, octet) in src.iter().enumerate() {
+        out[i] = *octet;
     }
 }
 
-// Copies octets into the part of a buffer that starts at an offset.
+/// Copies octets into the part of a buffer that starts at an offset, if they fit there.
+#[tactic(auto, unfolding(crate::specs::Octets::put, crate::specs::Octets::splice))]
 pub fn put_octets(out: &mut [u8], at: usize, src: &[u8])
     ensures { out.new ≡ put out.old at src.now }
 {
-    if runs_past(out.len(), at, src.len()) {
-        return;
+    if !runs_past(out.len(), at, src.len()) {
+        copy(&mut out[at..], src);
     }
-    copy(&mut out[at..], src);
 }
 
-// An address: its family is 4 or 6. Family 4 uses the first four octets.
+/// An address: its family is 4 or 6. Family 4 uses the first four octets.
+// The family is a number and no enum, and there are always 16 octets: C fills these structs, and
+// any other number means unused.
 #[repr(C)]
-#[derive(Clone, Copy)]
+#[derive(Clone, Copy, Debug)]
 pub struct Address {
     pub family: u8,
     pub octets: [u8; Address::IPV6_OCTETS],
 }
 
-// An address and a UDP port.
+/// An address and a UDP port.
 #[repr(C)]
-#[derive(Clone, Copy)]
+#[derive(Clone, Copy, PartialEq, Eq, Debug)]
 pub struct Endpoint {
     pub address: Address,
     pub port: u16,
 }
 
-// The settings of one interface: its family (any other than 4 or 6: unused), address, and repeat interval in milliseconds.
+/// The settings of one interface: its family (any other than 4 or 6: unused), address, and repeat
+/// interval in milliseconds. Settings are equal if every field is, with the octets that the family
+/// does not use.
+// The family is a number here too: the C interface.
 #[repr(C)]
-#[derive(Clone, Copy)]
+#[derive(Clone, Copy, PartialEq, Eq, Debug)]
 pub struct Setting {
     pub family: u8,
     pub address: [u8; Address::IPV6_OCTETS],
@@ -136,6 +123,17 @@ impl Address {
     pub const IPV4_OCTETS: usize = 4;
 
     pub const IPV6_OCTETS: usize = 16;
+
+    // The octets that the address's family uses.
+    fn used(&self) -> &[u8]
+        ensures { result.now ≡ used_octets self.now }
+    {
+        if self.family == Address::IPV4 {
+            &self.octets[..Address::IPV4_OCTETS]
+        } else {
+            &self.octets
+        }
+    }
 }
 
 impl Endpoint {
@@ -144,130 +142,111 @@ impl Endpoint {
 
 impl Setting {
     pub const COUNT: usize = 4;
+
+    /// The interface's own address.
+    pub fn own(&self) -> Address
+        ensures { result ≡ address_of self.now }
+    {
+        Address {
+            family: self.family,
+            octets: self.address,
+        }
+    }
+
+    #[tactic(auto, unfolding(crate::specs::Addresses::has_address))]
+    fn has_address(&self, a: Address) -> bool
+        ensures { result ≡ has_address self.now a }
+    {
+        is_family(self.family) && same_address(a, self.own())
+    }
 }
 
-// Whether a family is that of a used interface.
+/// Whether a family is that of a used interface.
 pub fn is_family(family: u8) -> bool
     ensures { result ≡ is_family family }
 {
-    if family == Address::IPV4 {
-        return true;
-    }
-    if family == Address::IPV6 { true } else { false }
+    family == Address::IPV4 || family == Address::IPV6
 }
 
-fn used_by(family: u8) -> usize
-    ensures value { result ≡ used_by family }
-    ensures upper_bound { result ≤ used_by6 }
-{
-    if family == Address::IPV4 {
-        Address::IPV4_OCTETS
-    } else {
-        Address::IPV6_OCTETS
+/// Addresses are equal if their families are, and the octets that the family uses.
+impl PartialEq for Address {
+    ghost use Rattle.std.specs.Prelude.{◌==◌, ◌∷◌};
+    ghost use Rattle.std.specs.Ordering.{on};
+    ghost use Rattle.std.specs.Cmp.{partial_equiv_from_equiv};
+    ghost use Rattle.std.specs.Cmp.Lexicographic.{pointwise, on_texts_equal};
+    ghost use Rattle.octets.specs.Addresses.{used_octets};
+
+    ghost eq = { on (λ a. a.family ∷ used_octets a) (pointwise ◌==◌) };
+
+    ghost laws = { partial_equiv_from_equiv (on_texts_equal (λ a. a.family ∷ used_octets a)) };
+
+    fn eq(&self, other: &Address) -> bool {
+        self.family == other.family && self.used() == other.used()
     }
 }
 
-// Whether two addresses are the same in the octets that their family uses.
+impl Eq for Address {
+    ghost use Rattle.std.specs.Prelude.{◌∷◌};
+    ghost use Rattle.std.specs.Cmp.Lexicographic.{on_texts_equal};
+    ghost use Rattle.octets.specs.Addresses.{used_octets};
+
+    ghost laws = { on_texts_equal (λ a. a.family ∷ used_octets a) };
+}
+
+/// Whether two addresses are the same in the octets that their family uses.
+// Beside `==`: a public function, which may not change; docs/PROMISES.md names it.
+#[tactic(auto, using(crate::proofs::Comparisons::address_is))]
 pub fn same_address(a: Address, b: Address) -> bool
     ensures { result ≡ same_address a b }
 {
-    if a.family != b.family {
-        return false;
-    }
-    let n = used_by(a.family);
-    let mut i = 0;
-    while i < n {
-        if a.octets[i] != b.octets[i] {
-            return false;
-        }
-        i = i + 1;
-    }
-    true
+    a == b
 }
 
-// Whether an address is below another of its family, octet by octet.
+/// Whether an address is below another of its family, octet by octet.
+// No PartialOrd: a public function, which may not change; docs/PROMISES.md names it.
+#[tactic(auto, using(crate::proofs::Comparisons::below_is, crate::proofs::Comparisons::one_length), unfolding(crate::specs::Addresses::below_address))]
 pub fn below_address(a: Address, b: Address) -> bool
     ensures { result ≡ below_address a b }
 {
-    if a.family != b.family {
-        return false;
-    }
-    let n = used_by(a.family);
-    let mut i = 0;
-    while i < n {
-        if a.octets[i] < b.octets[i] {
-            return true;
-        }
-        if b.octets[i] < a.octets[i] {
-            return false;
-        }
-        i = i + 1;
-    }
-    false
+    a.family == b.family && a.used() < b.used()
 }
 
-// The group address of a family.
+/// The group address of a family.
+#[tactic(auto, unfolding(crate::specs::Addresses::group_of))]
 pub fn group_of(family: u8) -> Address
     ensures { result ≡ group_of family }
 {
-    if family == Address::IPV4 {
-        return Address {
-            family: family,
-            octets: *b"\xe0\x00\x00\xfc\x00\x00\x00\x00\x00\x00\x00\x00\x00\x00\x00\x00",
-        };
-    }
-    Address {
-        family: family,
-        octets: *b"\xff\x02\x00\x00\x00\x00\x00\x00\x00\x00\x00\x00\x00\x01\x00\x03",
-    }
+    let octets = if family == Address::IPV4 {
+        *b"\xe0\x00\x00\xfc\x00\x00\x00\x00\x00\x00\x00\x00\x00\x00\x00\x00"
+    } else {
+        *b"\xff\x02\x00\x00\x00\x00\x00\x00\x00\x00\x00\x00\x00\x01\x00\x03"
+    };
+    Address { family, octets }
 }
 
-// Whether an address is the group address of its family.
+/// Whether an address is the group address of its family.
+#[tactic(auto, unfolding(crate::specs::Addresses::is_group))]
 pub fn is_group(a: Address) -> bool
     ensures { result ≡ is_group a }
 {
-    if is_family(a.family) {
-        return same_address(a, group_of(a.family));
-    }
-    false
+    is_family(a.family) && same_address(a, group_of(a.family))
 }
 
-// Where a query goes: the family's group and LLMNR's port.
+/// Where a query goes: the family's group and LLMNR's port.
+#[tactic(auto, unfolding(crate::specs::Addresses::group_endpoint))]
 pub fn group_endpoint(family: u8) -> Endpoint
     ensures { result ≡ group_endpoint family }
 {
-    let address = group_of(family);
     Endpoint {
-        address: address,
+        address: group_of(family),
         port: Endpoint::PORT,
     }
 }
 
-fn has_address(i: Setting, a: Address) -> bool
-    ensures { result ≡ has_address i a }
-{
-    if is_family(i.family) {
-        let octets = i.address;
-        let own = Address {
-            family: i.family,
-            octets: octets,
-        };
-        return same_address(a, own);
-    }
-    false
-}
-
-// Whether an address is that of a used interface.
+/// Whether an address is that of a used interface.
+#[tactic(auto, unfolding(crate::specs::Addresses::ours_among))]
 pub fn is_ours(settings: [Setting; Setting::COUNT], a: Address) -> bool
     ensures { result ≡ is_ours settings a }
 {
-    let mut n = Setting::COUNT;
-    while 0 < n {
-        n = n - 1;
-        let i = settings[n];
-        if has_address(i, a) {
-            return true;
-        }
-    }
-    false
+    settings.iter().any(|setting| setting.has_address(a))
 }

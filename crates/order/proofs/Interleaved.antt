@@ -1,10 +1,6 @@
 -- Two lists of calls, each on its own interface, all at one time: every way to interleave them gives the same. By moving one call past
 -- another, as the theorem about two calls allows.
-use Prim.Native.Nat.{ℕ}
-use mathlib.Core.Path.{◌≡◌, refl, sym, ap, ◌∙◌}
-use mathlib.Core.Logic.{◌≢◌}
-use mathlib.Core.List.{List, [], ◌∷◌, ◌++◌}
-use borrow.Author.Tests.{eq-eqb, ne_eqb}
+use Rattle.std.proofs.Common.{ℕ, ◌≡◌, refl, sym, ap, ◌∙◌, ◌≢◌, List, [], ◌∷◌, ◌++◌, eq-eqb, ne_eqb}
 use Rattle.octets.specs.declared.Endpoint.{Endpoint}
 use Rattle.host.specs.Outcomes.{CallResult}
 use Rattle.host.specs.Laws.{SameTold}

@@ -1,3 +1,2 @@
-pub mod MatchingLaws
-pub mod CallLaws
 pub mod NameLaws
+pub mod ReceiveLaws

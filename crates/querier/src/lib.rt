@@ -1,203 +1,194 @@
-// The calls of a lookup: start, receive and tick. They take the lookup by value and give the next one. What each gives is defined in the crate
-// lookup.
+// The calls of a lookup: start, receive and tick. What each gives is defined in the crate lookup.
 #![tactic(auto)]
 
-ghost use Rattle.std.specs.Prelude.{◌≡◌};
-ghost use Rattle.host.specs.Outcomes.{nowhere};
-ghost use Rattle.lookup.specs.State.{with_phase};
-ghost use Rattle.lookup.specs.Outcomes.{done_by};
+ghost use Rattle.std.specs.Prelude.{◌≡◌, ◌≤◌, OnErr};
+ghost use Rattle.host.specs.Bounds.{latest};
+ghost use Rattle.host.specs.State.{timer_from};
+ghost use Rattle.lookup.specs.Outcomes.{done_after, started_after};
 ghost use Rattle.lookup.specs.Start.{start as start_of};
 ghost use Rattle.lookup.specs.Receive.{receive as receive_of};
 ghost use Rattle.lookup.specs.Tick.{tick as tick_of};
+ghost use Rattle.querier.specs.Steps.{used_setting};
 
 mod matching;
 mod question;
 mod several;
-mod turn;
 
-use host::Host;
-use lookup::{Lookup, Outcome, Phase, Step};
+use host::{Arrival, Host, Moment, Timer};
+use lookup::{Asked, FirstQuery, Lookup, Outcome, Phase};
 use names::Name;
-use octets::{Address, Endpoint, Setting};
+use octets::Setting;
 use refusal::Refusal;
 
-// What a call gives that sends nothing.
-fn silent(lookup: Lookup, outcome: Outcome) -> Step
-    ensures { result ≡ record { lookup = lookup; outcome = outcome; to = nowhere } }
+// The settings of an interface; none where there is no such interface, or it is unused.
+fn used_setting(settings: &[Setting; Setting::COUNT], interface: usize) -> Option<Setting>
+    ensures { result ≡ used_setting settings.now interface }
 {
-    let to = host::nowhere();
-    Step {
-        lookup,
-        outcome,
-        to,
+    match settings.get(interface) {
+        Some(setting) if octets::is_family(setting.family) => Some(*setting),
+        _ => None,
     }
 }
 
-// Refuses a call: the lookup stays as it is.
-fn refuse(lookup: Lookup, refusal: Refusal) -> Step
-    ensures { result ≡ record { lookup = lookup; outcome = Outcome.Refused refusal; to = nowhere } }
+// A timer that is started at a time. It stands in responder too: shared, it would be a public
+// function with a `requires`, and no public function has one.
+fn timer_from(setting: Setting, time: u64) -> Timer
+    requires { time ≤ latest }
+    ensures { result ≡ timer_from setting time }
 {
-    silent(lookup, Outcome::Refused(refusal))
-}
-
-// The lookup after an accepted call: in a phase, the clock at the call's time.
-fn moved(lookup: Lookup, phase: Phase, time: u64) -> Lookup
-    ensures { result ≡ with_phase lookup phase time }
-{
-    let settings = lookup.settings;
-    let name = lookup.name;
-    Lookup {
-        settings: settings,
-        interface: lookup.interface,
-        name: name,
-        len: lookup.len,
-        qtype: lookup.qtype,
-        id: lookup.id,
-        clock: time,
-        phase: phase,
+    Timer {
+        due: time + Timer::interval(setting),
     }
 }
 
-// Starts a lookup of a name on an interface of a host with these settings: its query goes out for the first time. The permission is for names of
-// several labels.
+/// Starts a lookup on an interface of a host with these settings: its query goes out for the first
+/// time.
+///
+/// # Errors
+///
+/// `Room`, `Interface`, `Clock`, `Question` or `SeveralLabels`, in this order; the buffer stays as
+/// it is.
+// The first two checks stand in receive too: six lines, of which a function makes no plainer
+// ones.
+#[tactic(auto, unfolding(lookup::specs::Start::start, refusal::specs::Checks::verdict))]
 pub fn start(
     settings: [Setting; Setting::COUNT],
     interface: usize,
-    name: &[u8],
-    qtype: u16,
-    permission: bool,
-    time: u64,
-    id: u16,
+    asked: Asked,
+    moment: Moment,
     out: &mut [u8],
-) -> Step
-    ensures { done_by result out.new ≡ start_of settings interface name.now qtype permission time id out.old }
+) -> Result<FirstQuery, Refusal>
+    ensures done { started_after result out.new ≡ start_of settings interface asked.entry.name.now
+        asked.entry.qtype asked.entry.permission moment.time moment.id out.old }
+    ensures unwritten { OnErr result (out.new ≡ out.old) }
 {
-    let at = checks::slot(interface);
-    let s = settings[at];
     if out.len() < Host::ROOM {
-        return refuse(Lookup::ended(), Refusal::Room);
+        return Err(Refusal::Room);
     }
-    if checks::is_unused(interface, s.family) {
-        return refuse(Lookup::ended(), Refusal::Interface);
-    }
-    if Host::LATEST < time {
-        return refuse(Lookup::ended(), Refusal::Clock);
-    }
-    let n = question::check(permission, name);
-    if n.refused {
-        let why = n.refusal;
-        return refuse(Lookup::ended(), why);
-    }
-    let mut kept = [0u8; Name::LONGEST];
-    octets::put_octets(&mut kept, 0, name);
-    let phase = turn::asks(1, s, time);
-    let lookup = Lookup {
-        settings: settings,
-        interface: interface,
-        name: kept,
-        len: name.len(),
-        qtype: qtype,
-        id: id,
-        clock: time,
-        phase: phase,
+    let Some(setting) = used_setting(&settings, interface) else {
+        return Err(Refusal::Interface);
     };
-    let len = question::write(out, id, name, qtype);
-    let outcome = Outcome::Query { len };
-    let to = octets::group_endpoint(s.family);
-    Step {
-        lookup,
-        outcome,
-        to,
+    if Host::LATEST < moment.time {
+        return Err(Refusal::Clock);
     }
-}
-
-// Takes a datagram that came from an address and port to an address: the response that the lookup waits for, or a refusal.
-pub fn receive(
-    lookup: Lookup,
-    from: Endpoint,
-    to: Address,
-    datagram: &[u8],
-    time: u64,
-    id: u16,
-    out: &mut [u8],
-) -> Step
-    ensures { done_by result out.new ≡ receive_of lookup (record { from = from; to = to; datagram = datagram.now; time = time; id = id; out = out.old }) }
-{
-    let at = checks::slot(lookup.interface);
-    let s = lookup.settings[at];
-    if out.len() < Host::ROOM {
-        return refuse(lookup, Refusal::Room);
-    }
-    if checks::is_unused(lookup.interface, s.family) {
-        return refuse(lookup, Refusal::Interface);
-    }
-    if checks::bad_clock(lookup.clock, time) {
-        return refuse(lookup, Refusal::Clock);
-    }
-    let source = from.address;
-    let d = checks::read(true, s.family, source.family, to, datagram);
-    if d.refused {
-        let why = d.refusal;
-        return refuse(lookup, why);
-    }
-    let h = d.header;
-    let q = d.question;
-    let name = lookup.name;
-    let phase = lookup.phase;
-    let waits = matching::awaits(
-        phase,
-        lookup.id,
-        lookup.qtype,
+    question::check(asked)?;
+    let mut name = [0; Name::LONGEST];
+    octets::put_octets(&mut name, 0, asked.name);
+    let lookup = Lookup {
+        settings,
+        interface,
         name,
-        lookup.len,
-        h,
-        q,
-        datagram,
-    );
-    let settings = lookup.settings;
-    let m = matching::check(waits, settings, source, h, q, datagram);
-    if m.refused {
-        let why = m.refusal;
-        return refuse(lookup, why);
-    }
-    let next = turn::heard(phase, h.conflict);
-    let outcome = turn::told(h.conflict, q.end, h.answers);
-    silent(moved(lookup, next, time), outcome)
+        len: asked.name.len(),
+        qtype: asked.qtype,
+        id: moment.id,
+        clock: moment.time,
+        phase: Phase::Asking {
+            sends: 1,
+            timer: timer_from(setting, moment.time),
+        },
+    };
+    let len = question::write(out, moment.id, asked.name, asked.qtype);
+    Ok(FirstQuery {
+        lookup,
+        len,
+        to: octets::group_endpoint(setting.family),
+    })
 }
 
-// Serves a lookup that is due: its query goes out again, or it ends. The ID is not used: a repeat carries the first one.
-pub fn tick(lookup: Lookup, time: u64, id: u16, out: &mut [u8]) -> Step
-    ensures { done_by result out.new ≡ tick_of lookup time id out.old }
+/// Takes a datagram: the response that the lookup waits for.
+///
+/// # Errors
+///
+/// `Room`, `Interface`, `Clock`, `Length`; for a query `Unmatched`; then `Address`, `Opcode`,
+/// `Rcode`, `Counts`, `Question`, `Unmatched`, `Own`, `Tentative` or `Records`, in this order. The
+/// lookup and the buffer stay as they are.
+#[tactic(auto, unfolding(lookup::specs::Receive::receive, refusal::specs::Checks::verdict))]
+pub fn receive(
+    lookup: &mut Lookup,
+    arrival: Arrival,
+    moment: Moment,
+    out: &mut [u8],
+) -> Result<Outcome, Refusal>
+    ensures done { done_after lookup.new result out.new ≡ receive_of lookup.old (record {
+      from = arrival.entry.from;
+      to = arrival.entry.to;
+      datagram = arrival.entry.datagram.now;
+      time = moment.time;
+      id = moment.id;
+      out = out.old;
+    }) }
+    ensures refused { OnErr result (lookup.new ≡ lookup.old) }
+    ensures unwritten { OnErr result (out.new ≡ out.old) }
 {
     if out.len() < Host::ROOM {
-        return refuse(lookup, Refusal::Room);
+        return Err(Refusal::Room);
     }
+    let Some(setting) = used_setting(&lookup.settings, lookup.interface) else {
+        return Err(Refusal::Interface);
+    };
+    if checks::bad_clock(lookup.clock, moment.time) {
+        return Err(Refusal::Clock);
+    }
+    // Responses alone.
+    let response = checks::read(true, setting.family, arrival)?;
+    matching::check(lookup, &arrival, &response)?;
+    let at = response.question.end;
+    let answers = response.header.answers;
+    lookup.clock = moment.time;
+    if !response.header.conflict {
+        lookup.phase = Phase::Ended;
+        return Ok(Outcome::Found { at, answers });
+    }
+    if let Phase::Asking { timer, .. } = lookup.phase {
+        lookup.phase = Phase::Collecting { timer };
+    }
+    Ok(Outcome::Part { at, answers })
+}
+
+/// Serves a lookup that is due: its query goes out again, or it ends. The moment's ID is not used:
+/// a repeat carries the first one.
+///
+/// # Errors
+///
+/// `Room` or `Clock`, in this order; the lookup and the buffer stay as they are.
+#[tactic(auto, unfolding(lookup::specs::Tick::tick, refusal::specs::Checks::verdict))]
+pub fn tick(lookup: &mut Lookup, moment: Moment, out: &mut [u8]) -> Result<Outcome, Refusal>
+    ensures done { done_after lookup.new result out.new ≡ tick_of lookup.old moment.time moment.id
+        out.old }
+    ensures refused { OnErr result (lookup.new ≡ lookup.old) }
+    ensures unwritten { OnErr result (out.new ≡ out.old) }
+{
+    if out.len() < Host::ROOM {
+        return Err(Refusal::Room);
+    }
+    let time = moment.time;
     if checks::bad_clock(lookup.clock, time) {
-        return refuse(lookup, Refusal::Clock);
+        return Err(Refusal::Clock);
     }
-    let at = checks::slot(lookup.interface);
-    let s = lookup.settings[at];
-    let unused = checks::is_unused(lookup.interface, s.family);
-    let before = lookup.phase;
-    let a = turn::next(before, unused, s, time);
-    let phase = a.phase;
-    let lookup = moved(lookup, phase, time);
-    if a.asks {
-        let name = lookup.name;
-        let len = question::write(
-            out,
-            lookup.id,
-            question::kept(&name, lookup.len),
-            lookup.qtype,
-        );
-        let outcome = Outcome::Query { len };
-        let to = octets::group_endpoint(s.family);
-        return Step {
-            lookup,
-            outcome,
-            to,
-        };
+    lookup.clock = time;
+    let Some(setting) = used_setting(&lookup.settings, lookup.interface) else {
+        return Ok(Outcome::Quiet);
+    };
+    match lookup.phase {
+        Phase::Asking { sends, timer } if timer.due <= time && sends < Timer::SENDS => {
+            lookup.phase = Phase::Asking {
+                sends: sends + 1,
+                timer: timer_from(setting, time),
+            };
+            let len = question::write(out, lookup.id, question::name(lookup), lookup.qtype);
+            Ok(Outcome::Query {
+                len,
+                to: octets::group_endpoint(setting.family),
+            })
+        }
+        Phase::Asking { timer, .. } if timer.due <= time => {
+            lookup.phase = Phase::Ended;
+            Ok(Outcome::NoSuchName)
+        }
+        Phase::Collecting { timer } if timer.due <= time => {
+            lookup.phase = Phase::Ended;
+            Ok(Outcome::Collected)
+        }
+        _ => Ok(Outcome::Quiet),
     }
-    let outcome = a.outcome;
-    silent(lookup, outcome)
 }

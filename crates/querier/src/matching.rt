@@ -1,109 +1,65 @@
 // Whether a response is the one that a lookup waits for: the checks 15 to 18.
-ghost use Rattle.std.specs.Prelude.{◌≡◌, true, ◌≤◌, length, take};
-ghost use Rattle.octets.specs.Tests.{◌and◌};
-ghost use Rattle.lookup.specs.Receive.{waits, matches, is_stopped};
-ghost use Rattle.message.specs.Records.{walk_from};
-ghost use Rattle.querier.specs.Matching.{matched_by, matched};
+ghost use Rattle.std.specs.Prelude.{◌≡◌, ◌≤◌, length};
+ghost use Rattle.refusal.specs.Checks.{verdict};
+ghost use Rattle.lookup.specs.Receive.{waits, awaits, match_checks};
+ghost use Rattle.querier.specs.Steps.{verdict_by};
 
-use lookup::Phase;
-use message::{Header, Question, ResourceRecord, Walked};
-use names::Name;
-use octets::{Address, Setting};
+use crate::question;
+use checks::Datagram;
+use host::Arrival;
+use lookup::{Lookup, Phase};
+use message::{Header, ResourceRecord};
 use refusal::Refusal;
-
-// A refusal, or none.
-#[derive(Clone, Copy)]
-pub(crate) struct Matching {
-    pub(crate) refused: bool,
-    pub(crate) refusal: Refusal,
-}
-
-pub(crate) fn refuse(refusal: Refusal) -> Matching
-    ensures { result ≡ record { refused = true; refusal = refusal } }
-{
-    Matching {
-        refused: true,
-        refusal: refusal,
-    }
-}
 
 // Whether a lookup in a phase waits for a response with C set or clear.
 fn waits_for(phase: Phase, conflict: bool) -> bool
     ensures { result ≡ waits phase conflict }
 {
     match phase {
-        Phase::Asking { sends: _, timer: _ } => true,
-        Phase::Collecting { timer: _ } => conflict,
+        Phase::Asking { .. } => true,
+        Phase::Collecting { .. } => conflict,
         Phase::Ended => false,
     }
 }
 
-// Whether a lookup in a phase, whose query has this ID, this type, and a name that is kept in an array, waits for this response.
-pub(crate) fn awaits(
-    phase: Phase,
-    id: u16,
-    qtype: u16,
-    name: [u8; Name::LONGEST],
-    len: usize,
-    header: Header,
-    question: Question,
-    datagram: &[u8],
-) -> bool
-    requires { question.name ≤ length datagram.now }
-    ensures { result ≡ (waits phase header.conflict and matches id qtype (take len name) header question datagram.now) }
+// Whether a lookup waits for a response: it is in time for it, and the response has the ID and the
+// question of its query.
+fn awaits(lookup: &Lookup, response: &Datagram, datagram: &[u8]) -> bool
+    requires { response.now.question.name ≤ length datagram.now }
+    ensures { result ≡ awaits lookup.now response.now.header response.now.question datagram.now }
 {
-    if !waits_for(phase, header.conflict) {
-        return false;
-    }
-    if header.id != id {
-        return false;
-    }
-    if question.qtype != qtype {
-        return false;
-    }
-    if question.class != ResourceRecord::IN {
-        return false;
-    }
-    let asked = octets::part(datagram, Header::OCTETS, Header::OCTETS + question.name);
-    names::same_name(crate::question::kept(&name, len), asked)
+    let Datagram { header, question } = *response;
+    waits_for(lookup.phase, header.conflict)
+        && header.id == lookup.id
+        && question.qtype == lookup.qtype
+        && question.class == ResourceRecord::IN
+        && names::same_name(
+            question::name(lookup),
+            octets::part(datagram, Header::OCTETS, Header::OCTETS + question.name),
+        )
 }
 
-// Whether one of so many records from an offset on is bad.
-fn has_bad(datagram: &[u8], at: usize, count: u16) -> bool
-    ensures { result ≡ is_stopped (walk_from count datagram.now at) }
+// The checks of a response that was read.
+#[tactic(auto, unfolding(refusal::specs::Checks::verdict))]
+pub(crate) fn check(lookup: &Lookup, arrival: &Arrival, response: &Datagram) -> Result<(), Refusal>
+    requires { response.now.question.name ≤ length arrival.now.datagram.now }
+    ensures { verdict_by result ≡ verdict (match_checks
+        (awaits lookup.now response.now.header response.now.question arrival.now.datagram.now)
+        lookup.now.settings arrival.now.from.address response.now.header response.now.question
+        arrival.now.datagram.now) }
 {
-    let walked = message::walk(datagram, at, count);
-    match walked {
-        Walked::End(_) => false,
-        Walked::Stopped(_) => true,
+    let Datagram { header, question } = *response;
+    if !awaits(lookup, response, arrival.datagram) {
+        return Err(Refusal::Unmatched);
     }
-}
-
-// Of a response that is awaited or not: of the host's settings, the source, the header, the question and the octets.
-pub(crate) fn check(
-    awaited: bool,
-    settings: [Setting; Setting::COUNT],
-    source: Address,
-    header: Header,
-    question: Question,
-    datagram: &[u8],
-) -> Matching
-    ensures { matched_by result ≡ matched awaited settings source header question datagram.now }
-{
-    if !awaited {
-        return refuse(Refusal::Unmatched);
-    }
-    if octets::is_ours(settings, source) {
-        return refuse(Refusal::Own);
+    if octets::is_ours(lookup.settings, arrival.from.address) {
+        return Err(Refusal::Own);
     }
     if header.tentative {
-        return refuse(Refusal::Tentative);
+        return Err(Refusal::Tentative);
     }
-    if has_bad(datagram, question.end, header.answers) {
-        return refuse(Refusal::Records);
+    if message::walk(arrival.datagram, question.end, header.answers).is_err() {
+        return Err(Refusal::Records);
     }
-    Matching {
-        refused: false,
-        refusal: Refusal::Unmatched,
-    }
+    Ok(())
 }

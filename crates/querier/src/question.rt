@@ -1,48 +1,42 @@
 // The question of a lookup: a name as it is given, as it is kept, and the query for it.
-ghost use Rattle.std.specs.Prelude.{◌≡◌, length, take};
+ghost use Rattle.std.specs.Prelude.{◌≡◌, length};
 ghost use Rattle.octets.specs.Octets.{put};
 ghost use Rattle.names.specs.NameWalk.{name_at};
+ghost use Rattle.lookup.specs.State.{name_of};
 ghost use Rattle.lookup.specs.Outcomes.{query_for};
 ghost use Rattle.refusal.specs.Checks.{verdict};
 ghost use Rattle.lookup.specs.Start.{name_checks};
-ghost use Rattle.querier.specs.Matching.{matched_by};
+ghost use Rattle.querier.specs.Steps.{verdict_by};
 
-use crate::matching::Matching;
+use crate::several;
+use lookup::{Asked, Lookup};
 use message::ResourceRecord;
-use names::NameRead;
 use refusal::Refusal;
 
-// Whether octets are a name to look up: one name from end to end, and not the root; of one label, or one that is let by. They are read once.
-pub(crate) fn check(permission: bool, octets: &[u8]) -> Matching
-    ensures { matched_by result ≡ verdict (name_checks permission octets.now (name_at octets.now 0)) }
+// The checks of a name that is to be looked up: one name from end to end, and not the root; of one
+// label, or one that is let by.
+#[tactic(auto, unfolding(refusal::specs::Checks::verdict))]
+pub(crate) fn check(asked: Asked) -> Result<(), Refusal>
+    ensures { verdict_by result ≡ verdict (name_checks asked.entry.permission asked.entry.name.now
+        (name_at asked.entry.name.now 0)) }
 {
-    let read = names::read_name(octets, 0);
-    let NameRead::Good(n) = read else {
-        return crate::matching::refuse(Refusal::Question);
+    let Some(name) = names::read_name(asked.name, 0) else {
+        return Err(Refusal::Question);
     };
-    if n.len == 1 {
-        return crate::matching::refuse(Refusal::Question);
+    if name.len == 1 || name.len != asked.name.len() {
+        return Err(Refusal::Question);
     }
-    if n.len != octets.len() {
-        return crate::matching::refuse(Refusal::Question);
+    if several::is_barred(asked.permission, asked.name, name.labels) {
+        return Err(Refusal::SeveralLabels);
     }
-    if crate::several::is_barred(permission, octets, n.labels) {
-        return crate::matching::refuse(Refusal::SeveralLabels);
-    }
-    Matching {
-        refused: false,
-        refusal: Refusal::Question,
-    }
+    Ok(())
 }
 
-// The name that a lookup keeps: the first octets of its array, all of them where it has no more.
-pub(crate) fn kept(name: &[u8], len: usize) -> &[u8]
-    ensures { result.now ≡ take len name.now }
+// The name that a lookup asks for: the first octets of its array, all of them where it has no more.
+pub(crate) fn name(lookup: &Lookup) -> &[u8]
+    ensures { result.now ≡ name_of lookup.now }
 {
-    if len < name.len() {
-        return octets::part(name, 0, len);
-    }
-    name
+    lookup.name.get(..lookup.len).unwrap_or(&lookup.name)
 }
 
 // Writes the query for a name and a type, and gives its length.

@@ -1,10 +1,5 @@
 -- Checks made in order refuse exactly as a list of cases says, check by check.
-use Prim.Native.Nat.{ℕ}
-use mathlib.Core.Path.{◌≡◌, refl, sym, ap, ◌∙◌}
-use mathlib.Core.Logic.{◌↔◌, inl, inr, ⊎_elim}
-use mathlib.Core.List.{List, [], ◌∷◌}
-use mathlib.Core.Bool.{Bool, true, false}
-use native.Mathlib.Omega.{arith}
+use Rattle.std.proofs.Common.{ℕ, ◌≡◌, refl, sym, ap, ◌∙◌, ◌↔◌, inl, inr, ⊎_elim, List, [], ◌∷◌, Bool, true, false, arith}
 use Rattle.octets.proofs.Tests.{never}
 use Rattle.refusal.specs.Numbers.{Report, number}
 use Rattle.refusal.specs.Checks.{Checks, fail, pass, Verdict, refused, passed, verdict}

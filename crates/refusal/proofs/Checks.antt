@@ -1,9 +1,5 @@
 -- Laws of checks made in order.
-use Prim.Native.Nat.{ℕ}
-use mathlib.Core.Path.{◌≡◌, refl, ap, subst}
-use mathlib.Core.Logic.{◌≢◌}
-use mathlib.Core.Bool.{Bool, true, false}
-use native.Mathlib.Omega.{arith}
+use Rattle.std.proofs.Common.{ℕ, ◌≡◌, refl, ap, subst, ◌≢◌, Bool, true, false, arith}
 use Rattle.refusal.specs.Numbers.{Report, number_in}
 use Rattle.refusal.specs.Checks.{Checks, fail, pass, Verdict, refused, passed, verdict, Gives, next, stop, done, Clear}
 

@@ -2,110 +2,102 @@
 // whether TC is set.
 #![tactic(auto)]
 
-ghost use Rattle.std.specs.Prelude.{◌<◌, length};
-
-use message::{HeaderRead, ReplyHead, replies};
-use name_table::Table;
+use message::{Asked, ReplyHead, ResourceRecord, replies};
+use name_table::{Record, Table};
+use std::alloc::{AllocError, Global};
 use std::io;
 
-fn text(rt: &impl Print, octets: &[u8]) -> io::Result<()> {
-    rt.write_all(octets)
-}
+// The entry of the name, and those of an AAAA and of an A record.
+const NAME: [u8; 12] = *b"\x0c\x00\x01\x00\x06scale3\x00";
 
-fn number(rt: &impl Print, n: usize) -> io::Result<()> {
-    print!(rt; "{n}")
-}
+const AAAA: [u8; 20] =
+    *b"\x14\x00\x04\x00\x20\x01\x0d\xb8\x00\x00\x00\x00\x00\x00\x00\x00\x00\x00\x00\x01";
 
-// Writes an entry of the table n times, one after another, from an offset on.
-fn put_entries(table: &mut [u8], from: u16, n: u8, entry: &[u8])
-    requires { length entry.now < 256 }
-{
-    let mut at = from as usize;
-    let mut i: u8 = 0;
-    while i < n {
-        octets::put_octets(table, at, entry);
-        at = at + entry.len();
-        i = i + 1;
-    }
-}
+const A: [u8; 8] = *b"\x08\x00\x03\x00\xc0\x00\x02\x11";
 
-fn print_head(rt: &impl Print, reply: &[u8]) -> io::Result<()> {
-    let read = message::read_header(reply);
-    let HeaderRead::Good(h) = read else {
-        return text(rt, b" no header\n");
-    };
-    text(rt, b" answers ")?;
-    number(rt, h.answers as usize)?;
-    if h.truncated {
-        text(rt, b" TC set\n")
-    } else {
-        text(rt, b" TC clear\n")
-    }
-}
-
-// A table with scale3 and so many records of each type, asked by a question on interface 0. The A records stand behind a mask.
-fn print_case(
-    rt: &impl Print,
+/// A table with scale3, so many AAAA records and, behind a mask, so many A records; and the type that is asked for.
+#[derive(Clone, Copy)]
+struct Case {
     aaaa: u8,
     a: u8,
     mask: u8,
-    question: &[u8],
     qtype: u16,
-) -> io::Result<()> {
-    let mut table = [0u8; 1024];
-    octets::put_octets(&mut table, 0, b"\x0c\x00\x01\x00\x06scale3\x00");
-    put_entries(
-        &mut table,
-        12,
-        aaaa,
-        b"\x14\x00\x04\x00\x20\x01\x0d\xb8\x00\x00\x00\x00\x00\x00\x00\x00\x00\x00\x00\x01",
-    );
-    let behind = 12 + (aaaa as u16) * 20;
-    octets::put_octets(&mut table, behind as usize, b"\x05\x00\x06\x00");
-    octets::put_octets(&mut table, (behind as usize) + 4, &[mask]);
-    let after = behind + 5;
-    put_entries(&mut table, after, a, b"\x08\x00\x03\x00\xc0\x00\x02\x11");
-    let end = (after as usize) + (a as usize) * 8;
-    let mut out = [0u8; 512];
-    let head = ReplyHead {
-        id: 0x1234,
-        conflict: false,
-        tentative: false,
-    };
-    let len = replies::write_reply(
-        &mut out,
-        512,
-        head,
-        question,
-        qtype,
-        0,
-        octets::part(&table, 0, end),
-        12,
-    );
-    number(rt, aaaa as usize)?;
-    text(rt, b" AAAA ")?;
-    number(rt, a as usize)?;
-    if mask == Table::EVERYWHERE {
-        text(rt, b" A: octets ")?;
-    } else {
-        text(rt, b" A with a mask: octets ")?;
+}
+
+impl Case {
+    fn table(self, alloc: Global) -> Result<Vec<u8>, AllocError> {
+        let mut table = NAME.to_vec(alloc)?;
+        for _ in 0..self.aaaa {
+            table.extend_from_slice(&AAAA)?;
+        }
+        table.extend_from_slice(&[5, 0, 6, 0, self.mask])?;
+        for _ in 0..self.a {
+            table.extend_from_slice(&A)?;
+        }
+        Ok(table)
     }
-    number(rt, len)?;
-    print_head(rt, octets::part(&out, 0, len))
+
+    fn question(self, alloc: Global) -> Result<Vec<u8>, AllocError> {
+        let mut question = b"\x06scale3\x00".to_vec(alloc)?;
+        question.extend_from_slice(&self.qtype.to_be_bytes())?;
+        question.extend_from_slice(&ResourceRecord::IN.to_be_bytes())?;
+        Ok(question)
+    }
+
+    // Asks on interface 0, and prints what the reply has.
+    fn print(self, rt: &impl Print, alloc: Global) -> io::Result<()> {
+        let table = self.table(alloc)?;
+        let question = self.question(alloc)?;
+        let head = ReplyHead {
+            id: 0x1234,
+            conflict: false,
+            tentative: false,
+        };
+        let asked = Asked {
+            qtype: self.qtype,
+            interface: 0,
+            table: &table,
+            records: NAME.len(),
+        };
+        // An array: a reply has 512 octets at the most, and a Vec is no plainer.
+        let mut out = [0; 512];
+        let len = replies::write_reply(&mut out, 512, head, &question, asked);
+        let Case { aaaa, a, mask, .. } = self;
+        let masked = if mask == Table::EVERYWHERE {
+            ""
+        } else {
+            " with a mask"
+        };
+        print!(rt; "{aaaa} AAAA {a} A{masked}: octets {len}")?;
+        let Some(header) = message::read_header(octets::part(&out, 0, len)) else {
+            return println!(rt; " no header");
+        };
+        let tc = if header.truncated { "set" } else { "clear" };
+        println!(rt; " answers {} TC {tc}", header.answers)
+    }
 }
 
 fn main(rt: HostRuntime) -> io::Result<()> {
-    let aaaa = b"\x06scale3\x00\x00\x1c\x00\x01";
-    let any = b"\x06scale3\x00\x00\xff\x00\x01";
     let all = Table::EVERYWHERE;
-    print_case(&rt, 17, 0, all, aaaa, 28)?;
-    print_case(&rt, 18, 0, all, aaaa, 28)?;
-    print_case(&rt, 18, 3, all, aaaa, 28)?;
-    print_case(&rt, 10, 13, all, any, 255)?;
-    print_case(&rt, 10, 14, all, any, 255)?;
-    print_case(&rt, 10, 14, all, aaaa, 28)?;
-    print_case(&rt, 0, 5, all, aaaa, 28)?;
-    print_case(&rt, 17, 1, 2, any, 255)?;
-    print_case(&rt, 17, 1, 3, any, 255)?;
-    print_case(&rt, 18, 1, 2, any, 255)
+    for (aaaa, a, mask, qtype) in [
+        (17, 0, all, Record::AAAA),
+        (18, 0, all, Record::AAAA),
+        (18, 3, all, Record::AAAA),
+        (10, 13, all, ResourceRecord::ANY),
+        (10, 14, all, ResourceRecord::ANY),
+        (10, 14, all, Record::AAAA),
+        (0, 5, all, Record::AAAA),
+        (17, 1, 2, ResourceRecord::ANY),
+        (17, 1, 3, ResourceRecord::ANY),
+        (18, 1, 2, ResourceRecord::ANY),
+    ] {
+        let case = Case {
+            aaaa,
+            a,
+            mask,
+            qtype,
+        };
+        case.print(&rt, rt.alloc())?;
+    }
+    Ok(())
 }

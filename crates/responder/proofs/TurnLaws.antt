@@ -1,54 +1,28 @@
--- Laws for what a start or a tick makes of a name.
-use Rattle.std.proofs.Common.{◌≡◌, ℕ, zero, suc, ◌+◌, ◌-◌, ◌<◌, ◌≤◌, true, false, cond, ltb, List, get_or, sym, refl, ap, ◌∙◌, arith, ltb-false, le-ltb, lt-ltb}
+-- The search for the first name that is due, against the definition: its first place among all names.
+use Rattle.std.specs.Prelude.{Option, Some, None, position, Bool, ◌++◌}
+use Rattle.std.specs.List.{position_from}
+use Rattle.std.proofs.lemmas.Iterator.Adapters.{position_from-zero}
+use Rattle.std.proofs.Common.{rules, ◌≡◌, ℕ, zero, suc, ◌+◌, ◌<◌, ◌≤◌, cond, ltb, List, [], ◌∷◌, length, get_or, sym, refl, ◌∙◌, arith, le-ltb, lt-ltb, length-append, append_assoc, get_or-append-add}
 use Rattle.octets.proofs.Tests.{split}
-use Rattle.name_table.specs.Check.{Checked, good, no_name, names_in, check_table}
-use Rattle.name_table.specs.Shown.{names_of}
-use Rattle.name_table.specs.declared.Table.{Table}
-use Rattle.host.specs.Bounds.{sends_in_all}
-use Rattle.host.specs.State.{off_name, setting_of, with_state}
-use Rattle.host.specs.Outcomes.{CallResult, silent, unique}
-use Rattle.host.specs.Asking.{check_query, asking}
-use Rattle.host.specs.Tick.{is_due, Due, due, none, due_from, serve}
-use Rattle.host.specs.declared.Name.{Name}
+use Rattle.name_table.specs.Bounds.{most_names}
+use Rattle.host.specs.State.{off_name}
+use Rattle.host.specs.Tick.{is_due, Due, due, none, due_from}
 use Rattle.host.specs.declared.NameState.{NameState}
-use Rattle.host.specs.declared.NameState.TheVariants.{Off, Verifying, Unique, Defending, Stopped, Shared}
-use Rattle.host.specs.declared.Host.{Host}
-use Rattle.responder.specs.declared.turn.Turn.{Turn}
-use Rattle.responder.specs.Turn.{again, turned}
-
--- ---- the search for a name that is due
-
-module _ (n : ℕ) (names : List Name) (time i : ℕ) where
-  go : (m : ℕ) → n - i ≡ suc m → due_from (n - i) names i time ≡ cond (is_due (get_or names i off_name).state time) (due i) (due_from m names (i + 1) time)
-  unfolding due_from
-  go m e = rw e
-
-  pub due_turn : i < n → due_from (n - i) names i time ≡ cond (is_due (get_or names i off_name).state time) (due i) (due_from (n - (i + 1)) names (i + 1) time)
-  due_turn h = go (n - (i + 1)) (omega arith)
-
-  pub due_end : n ≤ i → due_from (n - i) names i time ≡ none
-  unfolding due_from
-  due_end h =
-      let z : n - i ≡ 0 = omega arith in
-      rw z
-
-pub due_all : (n : ℕ) (names : List Name) (time : ℕ) → due_from n names 0 time ≡ due_from (n - 0) names 0 time
-due_all n names time =
-    let z : n - 0 ≡ n = omega arith in
-    rw z
+use Rattle.responder.specs.declared.served.NamedState.{NamedState}
+use Rattle.responder.specs.Served.{due_state, due_found}
 
 -- Among fewer names it is the same one, if it is among them.
-abbrev upto : ℕ → Due → Due
+abbrev pub upto : ℕ → Due → Due
 upto n none = none
 upto n (due k) = cond (ltb k n) (due k) none
 
-module _ (names : List Name) (time : ℕ) where
+module _ (names : List NameState) (time : ℕ) where
   -- none is found before the first that is looked at
   before : (m i n : ℕ) → n ≤ i → upto n (due_from m names i time) ≡ none
   unfolding due_from
   before zero i n l = refl
   before (suc m) i n l =
-      split (is_due (get_or names i off_name).state time) (λ p. rw (p, le-ltb i n l))
+      split (is_due (get_or names i off_name) time) (λ p. rw (p, le-ltb i n l))
       (λ p. rw p (before m (i + 1) n (omega (arith, l))))
 
   shorter : (n m i : ℕ) → n ≤ m → due_from n names i time ≡ upto (i + n) (due_from m names i time)
@@ -58,39 +32,56 @@ module _ (names : List Name) (time : ℕ) where
   shorter (suc n) (suc m) i l =
       let s : i + suc n ≡ i + 1 + n = omega arith in
       let b : i < i + suc n = omega arith in
-      split (is_due (get_or names i off_name).state time) (λ p. rw (p, lt-ltb i (i + suc n) b))
+      split (is_due (get_or names i off_name) time) (λ p. rw (p, lt-ltb i (i + suc n) b))
       (λ p. rw (p, s) (shorter n m (i + 1) (omega (arith, l))))
 
-  pub due_among : (n m k : ℕ) → n ≤ m → due_from m names 0 time ≡ cond (ltb k m) (due k) none → due_from n names 0 time ≡ cond (ltb k n) (due k) none
-  due_among n m k l e =
-      let z : 0 + n ≡ n = omega arith in
-      shorter n m 0 l
-      ∙ rw (e, z)
-      (split (ltb k m) (λ p. rw p) (λ p. rw (p, le-ltb k n (omega (arith, l, ltb-false k m p)))))
+  pub due_among : (n m : ℕ) → n ≤ m → due_from n names 0 time ≡ upto n (due_from m names 0 time)
+  due_among n m l = let z : 0 + n ≡ n = omega arith in shorter n m 0 l ∙ rw z
 
--- ---- what a call gives
+-- ---- the code's search
 
--- what a due name is served with
-pub serves : (state : NameState) (h : Host) (table : List ℕ) (i k time : ℕ) (out : List ℕ)
-    → turned (again state (setting_of h i) time) (unique k) h table i k time out ≡ serve state h table i k time out
-unfolding turned
-serves (Verifying sends id timer) h table i k time out = split (ltb sends sends_in_all) (λ p. rw p) (λ p. rw p)
-serves (Defending id qtype qclass timer) h table i k time out = refl
-serves Off h table i k time out = refl
-serves Unique h table i k time out = refl
-serves (Stopped until) h table i k time out = refl
-serves Shared h table i k time out = refl
+abbrev by_place : Option ℕ → Due
+by_place None = none
+by_place (Some k) = due k
 
-module _ (a : Turn) (r : CallResult) (h : Host) (table : List ℕ) (i k time : ℕ) (out : List ℕ) where
-  pub rested : a.asks ≡ false → silent (with_state h i k a.name.state time) out r ≡ turned a r h table i k time out
-  unfolding turned
-  rested b = rw b
+module _ (time : ℕ) where
+  abbrev p : NameState → Bool
+  p s = is_due s time
 
-  -- the octets of a name of the table as the code finds them
-  pub asked : a.asks ≡ true → (t : Table) → check_table table ≡ good (names_of table t)
-      → asking (with_state h i k a.name.state time) (setting_of h i) k (check_query a.id (get_or (names_of table t) k no_name).octets) out
-      ≡ turned a r h table i k time out
-  unfolding turned
-  asked b t g =
-      rw b
-      (ap (λ (c : Checked). asking (with_state h i k a.name.state time) (setting_of h i) k (check_query a.id (get_or (names_in c) k no_name).octets) out) (sym g))
+  walk : (names before_it : List NameState)
+      → due_from (length names) (before_it ++ names) (length before_it) time ≡ by_place (position_from p (length before_it) names)
+  unfolding due_from
+  walk [] xs = refl
+  walk (y ∷ ys) xs =
+      let z : get_or (xs ++ y ∷ ys) (length xs + 0) off_name ≡ y = get_or-append-add xs (y ∷ ys) 0 off_name in
+      let a : length xs + 0 ≡ length xs = omega arith in
+      let b : get_or (xs ++ y ∷ ys) (length xs) off_name ≡ y = rw a at z in
+      let l : length (xs ++ y ∷ []) ≡ length xs + 1 = length-append xs (y ∷ []) in
+      let v : due_from (length ys) ((xs ++ y ∷ []) ++ ys) (length (xs ++ y ∷ [])) time ≡ by_place (position_from p (length (xs ++ y ∷ [])) ys) = walk ys (xs ++ y ∷ []) in
+      let w = rw (l, append_assoc xs (y ∷ []) ys) at v in
+      split (is_due y time) (λ q. rw (b, q)) (λ q. rw (b, q) w)
+
+  places : (names : List NameState) → length names ≡ most_names → (f : Option ℕ) → f ≡ position p names
+      → due_from most_names names 0 time ≡ by_place f
+  places names l f e =
+      rw (← l, e, position_from-zero p names) (walk names [])
+
+  pub none_found : (names : List NameState) → length names ≡ most_names → None ≡ position p names → None ≡ due_found names time
+  unfolding due_found
+  none_found names l e = rw (places names l None e)
+
+  pub one_found : (names : List NameState) → length names ≡ most_names → (k : ℕ) → Some k ≡ position p names
+      → ◌≡◌ {A = Option NamedState} (Some (record { name = k; state = get_or names k off_name })) (due_found names time)
+  unfolding due_found
+  one_found names l k e = rw (places names l (Some k) e)
+
+-- ---- what it says
+
+pub state_none : (d : Due) (names : List NameState) → None ≡ due_state d names → d ≡ none
+state_none none names e = refl
+state_none (due k) names e = search rules
+
+pub state_one : (d : Due) (names : List NameState) (n : NamedState) → Some n ≡ due_state d names
+    → (d ≡ due n.name) × (get_or names n.name off_name ≡ n.state)
+state_one none names n e = search rules
+state_one (due k) names n e = let q : n ≡ record { name = k; state = get_or names k off_name } = cc in (rw q, rw q)

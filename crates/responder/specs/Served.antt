@@ -1,18 +1,36 @@
 -- A call in terms of one name: what it looks at of a host, and what it makes of it. So the host may be held in any form.
-use Rattle.std.specs.Prelude.{◌≡◌, ℕ, ◌<◌, Bool, true, false, cond, List}
+use Rattle.std.specs.Prelude.{◌≡◌, ℕ, ◌<◌, Bool, true, false, List, get_or, Option, Some, None, Result, Ok, Err}
 use Rattle.octets.specs.Bounds.{interfaces}
 use Rattle.octets.specs.declared.Setting.{Setting}
+use Rattle.refusal.specs.Numbers.{report_of}
+use Rattle.refusal.specs.declared.Refusal.{Refusal}
 use Rattle.name_table.specs.Bounds.{most_names}
-use Rattle.host.specs.State.{setting_of, with_clock, with_state}
-use Rattle.host.specs.Outcomes.{CallResult, refused, ready, quiet, kept, query, reply, unique, shared, stopped, Done, result_of}
+use Rattle.host.specs.State.{off_name, setting_of, with_clock, with_state}
+use Rattle.host.specs.Outcomes.{CallResult, refused, ready, quiet, kept, query, reply, unique, shared, stopped, Done, refusal, result_of, to_of}
+use Rattle.host.specs.Tick.{Due, due, none, due_from}
+use Rattle.host.specs.declared.NameState.{NameState}
 use Rattle.host.specs.declared.Host.{Host}
 use Rattle.checks.specs.Messages.{slot_of}
+use Rattle.responder.specs.declared.served.NamedState.{NamedState}
 use Rattle.responder.specs.declared.served.Served.{Served}
+use Rattle.responder.specs.declared.served.Site.{Site}
 
 -- what a call on interface i looks at of every host, beside names: the interface's settings, and the clock
 pub record Sees (h : Host) (i : ℕ) (s : Setting) (clock : ℕ) : Type 0 where
   pub setting : setting_of h (slot_of i) ≡ s
   pub clock_is : h.clock ≡ clock
+
+-- of one host
+abbrev pub site_on : Host → ℕ → Site
+site_on h i = record { interface = i; setting = setting_of h (slot_of i); clock = h.clock }
+
+-- the first name that is due, with its state
+abbrev pub due_state : Due → List NameState → Option NamedState
+due_state none names = None
+due_state (due k) names = Some (record { name = k; state = get_or names k off_name })
+
+unfoldable pub due_found : List NameState → ℕ → Option NamedState
+due_found names time = due_state (due_from most_names names 0 time) names
 
 -- the name that a result tells has a new state
 abbrev pub changes : CallResult → Bool
@@ -38,23 +56,22 @@ name_told (unique k) = k
 name_told (shared k) = k
 name_told (stopped k) = k
 
--- the host after a call on interface i
-abbrev pub host_after : Served → Host → ℕ → Host
-host_after r h i =
-    cond (changes (result_of r.outcome))
-    (with_state h i (name_told (result_of r.outcome)) r.name.state r.clock)
-    (with_clock h r.clock)
+-- the host after an accepted call on interface i at a time
+abbrev pub host_after : Option NamedState → Host → ℕ → ℕ → Host
+host_after None h i time = with_clock h time
+host_after (Some n) h i time = with_state h i n.name n.state time
 
 -- what the call gives on a host, with every octet of the lent buffer
-abbrev pub served_by : Served → List ℕ → Host → ℕ → Done
-served_by r out h i = record { host = host_after r h i; result = result_of r.outcome; to = r.to; octets = out }
+abbrev pub served_by : Result Served Refusal → List ℕ → Host → ℕ → ℕ → Done
+served_by (Ok s) out h i time =
+    record { host = host_after s.change h i time; result = result_of s.outcome; to = to_of s.outcome; octets = out }
+served_by (Err why) out h i time = refusal h out (report_of why)
 
--- if a name has a new state, it and its interface are there
-abbrev pub IsWithin : Served → ℕ → Type 0
-IsWithin r i =
-    changes (result_of r.outcome) ≡ true → (i < interfaces) × (name_told (result_of r.outcome) < most_names)
+-- a name has a new state exactly where the result says so, and it is the one that this tells; it and its interface are there
+abbrev pub ChangeIsWithin : Option NamedState → CallResult → ℕ → Type 0
+ChangeIsWithin None r i = changes r ≡ false
+ChangeIsWithin (Some n) r i = (changes r ≡ true) × (name_told r ≡ n.name) × (i < interfaces) × (n.name < most_names)
 
--- the call gives what a definition gives on a host
-pub record Serves (r : Served) (out : List ℕ) (h : Host) (i : ℕ) (d : Done) : Type 0 where
-  pub gives : served_by r out h i ≡ d
-  pub within : IsWithin r i
+abbrev pub IsWithin : Result Served Refusal → ℕ → Type 0
+IsWithin (Ok s) i = ChangeIsWithin s.change (result_of s.outcome) i
+IsWithin (Err why) i = Unit

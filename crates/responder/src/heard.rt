@@ -1,169 +1,135 @@
-// A receive in terms of one name, in two steps: what is heard before any name's state is looked at, and then what is made of it. So the host may
-// be held in any form.
-ghost use Rattle.std.specs.Prelude.{◌≡◌, ℕ, true, List, length};
+// A receive in terms of one name, in two steps: what is heard before any name's state is looked at,
+// and then what is made of it. So the host may be held in any form.
+ghost use Rattle.std.specs.Prelude.{◌≡◌, ℕ, Ok, OnErr, List, length};
 ghost use Rattle.octets.specs.declared.Address.{Address};
 ghost use Rattle.octets.specs.Addresses.{is_ours};
 ghost use Rattle.host.specs.State.{is_own, state_of};
 ghost use Rattle.host.specs.Receive.{receive as receive_of};
 ghost use Rattle.host.specs.declared.Host.{Host};
 ghost use Rattle.checks.specs.Messages.{slot_of};
-ghost use Rattle.responder.specs.Served.{Sees, Serves};
-ghost use Rattle.responder.specs.Heard.{hears as hears_of, heard_by, hearing};
+ghost use Rattle.name_table.specs.Check.{no_name};
+ghost use Rattle.name_table.specs.Shown.{names_of};
+ghost use Rattle.std.specs.Prelude.{slice_index_or};
+ghost use Rattle.responder.specs.Served.{Sees, served_by, IsWithin};
+ghost use Rattle.responder.specs.Heard.{arrival_of, heard_by, hearing};
 
 use crate::contest::Judged;
-use crate::served::Served;
-use crate::{contest, opening, reply, served, turn};
-use host::{Name, Outcome, Timer};
+use crate::served::{Served, Site};
+use crate::{contest, opening, reply, turn};
+use checks::Datagram;
+use host::{Arrival, Moment, NameState, Outcome, Timer};
 use message::{Header, Question};
-use name_table::Found;
-use octets::{Address, Endpoint, Setting};
+use name_table::Table;
+use octets::Setting;
 use refusal::Refusal;
 
-// A refusal; or none, and the number of the name that the datagram is for, where its records begin in the table, a timer that is started now,
-// the header and the question.
-#[derive(Clone, Copy)]
+/// A datagram that came, the table that it is answered from, and when the call is made.
+#[derive(Clone, Copy, PartialEq, Eq, Debug)]
+pub struct Call<'a> {
+    pub table: &'a [u8],
+    pub arrival: Arrival<'a>,
+    pub moment: Moment,
+}
+
+/// The number of the name that a datagram is for, where its records begin in the table, a timer
+/// that is started now, the header and the question.
+// An offset into the table: `answers_in` of message, which may not change, takes it.
+#[derive(Clone, Copy, PartialEq, Eq, Debug)]
 pub struct Heard {
-    pub refused: bool,
-    pub refusal: Refusal,
     pub name: usize,
-    pub records: u16,
+    pub records: usize,
     pub timer: Timer,
     pub header: Header,
     pub question: Question,
 }
 
-fn refuse(refusal: Refusal) -> Heard
-    ensures refused_value { result.refused ≡ true }
-    ensures refusal_value { result.refusal ≡ refusal }
+// Where the records of the name with a number begin; 0 if the table has no such name.
+// A 0 and no Option: the name was found just before, and `no_name` of name_table's specs/Check
+// says 0.
+fn records_of(names: &Table, name: usize) -> usize
+    ensures { (table : List ℕ)
+        → result ≡ (slice_index_or (names_of table names.now) name no_name).end }
 {
-    let header = Header {
-        id: 0,
-        response: false,
-        opcode: 0,
-        conflict: false,
-        truncated: false,
-        tentative: false,
-        rcode: 0,
-        questions: 0,
-        answers: 0,
-        authorities: 0,
-        additionals: 0,
-    };
-    let question = Question {
-        name: 0,
-        labels: 0,
-        qtype: 0,
-        class: 0,
-        end: 0,
-    };
-    let timer = Timer { due: 0 };
-    Heard {
-        refused: true,
-        refusal: refusal,
-        name: 0,
-        records: 0,
-        timer: timer,
-        header: header,
-        question: question,
+    match names.name(name) {
+        Some(named) => named.end,
+        None => 0,
     }
 }
 
-fn hears(name: usize, records: u16, timer: Timer, header: Header, question: Question) -> Heard
-    ensures { heard_by result ≡ hears_of name records timer header question }
+/// What is heard of a datagram, with a buffer of so many octets. The names of the host are not
+/// looked at, and the buffer is not lent: nothing is written before the name is known.
+///
+/// # Errors
+///
+/// The refusals 1 to 11, in the order of the rules; for a name that the table does not have,
+/// `NotOurs` to a query and `Unmatched` to a response.
+pub fn hear(room: usize, site: Site, call: Call) -> Result<Heard, Refusal>
+    ensures { (h : Host) (id : ℕ) (out : List ℕ)
+        → Sees h site.interface site.setting site.clock
+        → length out ≡ room
+        → heard_by result
+        ≡ hearing h (record (arrival_of call.entry site.interface out) { id = id }) }
 {
-    Heard {
-        refused: false,
-        refusal: Refusal::Room,
-        name: name,
-        records: records,
-        timer: timer,
-        header: header,
-        question: question,
-    }
-}
-
-// The octets of the buffer, and what the call is given. The names of the host are not looked at.
-pub fn hear(
-    room: usize,
-    setting: Setting,
-    clock: u64,
-    table: &[u8],
-    interface: usize,
-    from: Endpoint,
-    to: Address,
-    datagram: &[u8],
-    time: u64,
-) -> Heard
-    ensures { (h : Host) (id : ℕ) (out : List ℕ) → Sees h interface setting clock → length out ≡ room → heard_by result ≡ hearing h (record { table = table.now; interface = interface; from = from; to = to; datagram = datagram.now; time = time; id = id; out = out }) }
-{
-    let o = opening::open(room, table, interface, setting.family, clock, time);
-    if o.refused {
-        let why = o.refusal;
-        return refuse(why);
-    }
-    let source = from.address;
-    let d = checks::read(false, setting.family, source.family, to, datagram);
-    if d.refused {
-        let why = d.refusal;
-        return refuse(why);
-    }
-    let t = o.table;
-    let question = d.question;
-    let header = d.header;
-    let name = octets::part(datagram, Header::OCTETS, Header::OCTETS + question.name);
-    let found = t.find(table, name);
-    let Found::At(k) = found else {
-        return refuse(contest::unknown(header.response));
+    let names = opening::open(room, site, call.table, call.moment.time)?;
+    // Queries and responses.
+    let Datagram { header, question } = checks::read(false, site.setting.family, call.arrival)?;
+    let asked = octets::part(
+        call.arrival.datagram,
+        Header::OCTETS,
+        Header::OCTETS + question.name,
+    );
+    let Some(name) = names.find(call.table, asked) else {
+        return Err(contest::unknown(header.response));
     };
-    let timer = turn::timer(setting, time);
-    hears(k, t.ends[k], timer, header, question)
+    Ok(Heard {
+        name,
+        records: records_of(&names, name),
+        timer: turn::timer(site.setting, call.moment.time),
+        header,
+        question,
+    })
 }
 
-// What is made of it, with the state of the name that was heard of and the settings of all interfaces: it is answered, or settles who has the name.
+/// What is made of a datagram that was heard, with the state of its name here and the settings of
+/// all interfaces: it is answered, or settles who has the name.
+///
+/// # Errors
+///
+/// `NotOurs`, `Stopped` or `Notification` to a query, `Unmatched` or `Own` to a response; the
+/// buffer stays as it is.
 pub fn answer(
     heard: Heard,
-    name: Name,
-    settings: [Setting; Setting::COUNT],
-    setting: Setting,
-    clock: u64,
-    table: &[u8],
-    interface: usize,
-    from: Endpoint,
-    datagram: &[u8],
-    time: u64,
-    id: u16,
+    state: NameState,
+    settings: &[Setting; Setting::COUNT],
+    site: Site,
+    call: Call,
     out: &mut [u8],
-) -> Served
-    ensures { (h : Host) (to : Address) → Sees h interface setting clock → is_ours settings from.address ≡ is_own h from.address → heard_by heard ≡ hearing h (record { table = table.now; interface = interface; from = from; to = to; datagram = datagram.now; time = time; id = id; out = out.old }) → state_of h (slot_of interface) heard.name ≡ name.state → Serves result out.new h interface (receive_of h (record { table = table.entry.now; interface = interface; from = from; to = to; datagram = datagram.now; time = time; id = id; out = out.old })) }
+) -> Result<Served, Refusal>
+    ensures gives { (h : Host) (to : Address)
+        → let a = record (arrival_of call.entry site.interface out.old) { to = to } in
+        Sees h site.interface site.setting site.clock
+        → is_ours settings.now call.entry.arrival.from.address
+        ≡ is_own h call.entry.arrival.from.address
+        → heard_by (Ok heard) ≡ hearing h a
+        → state_of h (slot_of site.interface) heard.name ≡ state
+        → served_by result out.new h site.interface call.entry.moment.time ≡ receive_of h a }
+    ensures within { (h : Host) (to : Address)
+        → let a = record (arrival_of call.entry site.interface out.old) { to = to } in
+        heard_by (Ok heard) ≡ hearing h a → IsWithin result site.interface }
+    ensures unwritten { OnErr result (out.new ≡ out.old) }
 {
-    if heard.refused {
-        let why = heard.refusal;
-        return served::rest(clock, Outcome::Refused(why));
+    let source = call.arrival.from.address;
+    match contest::judge(state, heard, settings, source)? {
+        Judged::Answer => Ok(Served {
+            outcome: Outcome::Reply {
+                len: reply::write(heard, state, site.interface, call, out),
+                to: call.arrival.from,
+            },
+            change: None,
+        }),
+        Judged::Contest => {
+            let ending = contest::settle(state, heard.header, source, site.setting);
+            Ok(contest::end(ending, heard, site, call, out))
+        }
     }
-    let h = heard.header;
-    let q = heard.question;
-    let source = from.address;
-    let judged = contest::judge(name, h, q, settings, source);
-    if let Judged::Refused(why) = judged {
-        return served::rest(clock, Outcome::Refused(why));
-    }
-    let asked = octets::part(datagram, Header::OCTETS, q.end);
-    if let Judged::Answer = judged {
-        let len = reply::write(
-            out,
-            h.id,
-            name,
-            asked,
-            q.qtype,
-            interface,
-            table,
-            heard.records,
-        );
-        return served::reply(time, len, from);
-    }
-    let ended = contest::settle(name, h, source, setting);
-    let told = contest::tell(ended, heard.name, setting.family, id, asked, out);
-    let timer = heard.timer;
-    let next = contest::next(ended, id, h, q, timer, datagram, time);
-    served::told(next, time, told)
 }

@@ -1,167 +1,177 @@
-// The calls of a host: set-up, start, receive and tick. They take the host by value and give the next one. What each gives is defined in the
-// crate host.
+// The calls of a host: set-up, start, receive and tick. They change the host where it stands. What
+// each gives is defined in the crate host.
 #![tactic(auto)]
 
-ghost use Rattle.std.specs.Prelude.{◌≡◌, ℕ, ◌<◌, List, [], if◌then◌else◌, slice_index_or};
-ghost use Rattle.octets.specs.Bounds.{interfaces};
-ghost use Rattle.name_table.specs.Bounds.{most_names};
+ghost use Rattle.std.specs.Prelude.{◌≡◌, List, ℕ, OnErr, Ok, slice_index_or};
 ghost use Rattle.host.specs.State.{off_name};
-ghost use Rattle.host.specs.Outcomes.{nowhere, result_of, done_by};
-ghost use Rattle.host.specs.SetUp.{set_up};
+ghost use Rattle.host.specs.Outcomes.{done_after};
+ghost use Rattle.host.specs.SetUp.{set_up, set_up_after};
 ghost use Rattle.host.specs.Start.{start as start_of};
 ghost use Rattle.host.specs.Receive.{receive as receive_of};
 ghost use Rattle.host.specs.Tick.{tick as tick_of};
-ghost use Rattle.responder.specs.Served.{changes, name_told, served_by, IsWithin};
+ghost use Rattle.responder.specs.Served.{served_by, IsWithin, site_on};
 
 mod contest;
 pub mod heard;
 mod opening;
-mod query;
 mod reply;
 pub mod served;
 mod settings;
 mod stopping;
-mod turn;
+pub mod turn;
 
-use host::{Host, Interface, Name, NameState, Outcome, Step};
-use octets::{Address, Endpoint, Setting};
+use heard::Call;
+use host::{Arrival, Host, Interface, Moment, NameState, Outcome};
+use name_table::Table;
+use octets::Setting;
 use refusal::Refusal;
-use served::Served;
+use served::{Served, Site};
 
-// Refuses a call: the host stays as it is.
-fn refuse(host: Host, refusal: Refusal) -> Step
-    ensures { result ≡ record { host = host; outcome = Outcome.Refused refusal; to = nowhere } }
+/// Sets a host up: every name is Off on every interface. It is lent no buffer, and no earlier time
+/// counts.
+///
+/// # Errors
+///
+/// `Table`, `Clock` or `Settings`, in this order.
+pub fn set_up(
+    table: &[u8],
+    settings: [Setting; Setting::COUNT],
+    moment: Moment,
+) -> Result<Host, Refusal>
+    ensures { set_up_after result ≡ set_up table.now settings moment.time moment.id }
 {
-    let outcome = Outcome::Refused(refusal);
-    let to = host::nowhere();
-    Step { host, outcome, to }
+    Table::read(table)?;
+    if Host::LATEST < moment.time {
+        return Err(Refusal::Clock);
+    }
+    if settings::any_bad(&settings) {
+        return Err(Refusal::Settings);
+    }
+    Ok(Host::fresh(settings, moment.time))
 }
 
-// Sets a host up: every name is Off on every interface. It is lent no buffer, and no earlier time counts.
-pub fn set_up(table: &[u8], settings: [Setting; Setting::COUNT], time: u64, id: u16) -> Step
-    ensures { done_by result [] ≡ set_up table.now settings time id }
+// What a call on an interface looks at of a host, beside names.
+// That of llmnr_c is given parts of a host: one for both is no plainer.
+fn site(host: &Host, interface: usize) -> Site
+    ensures { result ≡ site_on host.now interface }
 {
-    let read = name_table::Table::read(table);
-    if !read.good {
-        let at = read.at;
-        return refuse(Host::zero(), Refusal::Table { at: at });
-    }
-    if Host::LATEST < time {
-        return refuse(Host::zero(), Refusal::Clock);
-    }
-    if settings::any_bad(settings) {
-        return refuse(Host::zero(), Refusal::Settings);
-    }
-    let host = Host::fresh(settings, time);
-    let to = host::nowhere();
-    let outcome = Outcome::Ready;
-    Step { host, outcome, to }
-}
-
-// The number of the name that has a new state after a call; past all names if none has.
-fn changed(outcome: Outcome) -> usize
-    ensures { result ≡ (if changes (result_of outcome) then name_told (result_of outcome) else most_names) }
-{
-    match outcome {
-        Outcome::Query { name, len: _ } => name,
-        Outcome::Unique { name } => name,
-        Outcome::Shared { name } => name,
-        Outcome::Stopped { name } => name,
-        _ => Name::COUNT,
+    Site {
+        interface,
+        setting: host.interfaces[checks::slot(interface)].setting,
+        clock: host.clock,
     }
 }
 
-// The host after a call on the interface at a place.
-fn after(mut host: Host, at: usize, served: Served) -> Step
-    requires { at < interfaces }
-    ensures { IsWithin served at → (out : List ℕ) → done_by result out ≡ served_by served out host at }
+// The state of the name with a number; Off where there is none.
+fn state_at(names: &[NameState; Interface::NAMES], name: usize) -> NameState
+    ensures { result ≡ slice_index_or names.now name off_name }
 {
-    let outcome = served.outcome;
-    let k = changed(outcome);
-    if k < Name::COUNT {
-        let mut i = host.interfaces[at];
-        let next = served.name;
-        i.names[k] = next;
-        host.interfaces[at] = i;
-    }
-    host.clock = served.clock;
-    let to = served.to;
-    Step { host, outcome, to }
+    names.get(name).copied().unwrap_or(NameState::Off)
 }
 
-// The name with a number; Off where there is none.
-fn name_at(names: [Name; Name::COUNT], k: usize) -> Name
-    ensures { result ≡ slice_index_or names k off_name }
+// The host takes what an accepted call on an interface has come to.
+fn take(host: &mut Host, interface: usize, served: Served, time: u64) -> Outcome
+    requires within { IsWithin (Ok served) interface }
+    ensures { (out : List ℕ)
+        → done_after host.new (Ok result) out
+        ≡ served_by (Ok served) out host.old interface time }
 {
-    if k < Name::COUNT {
-        return names[k];
+    if let Some(change) = served.change {
+        host.interfaces[interface].names[change.name] = change.state;
     }
-    Name {
-        state: NameState::Off,
-    }
+    host.clock = time;
+    served.outcome
 }
 
-// Starts a name on an interface: a shared one is Shared at once, of a unique one the check begins.
+/// Starts a name of the table on an interface, both by their numbers: a shared one is Shared at
+/// once, of a unique one the check begins.
+///
+/// # Errors
+///
+/// `Room`, `Table`, `Interface`, `Clock`, `NotOurs`, `Busy` or `TooSoon`, in this order; the host
+/// and the buffer stay as they are.
+// Table, interface, moment and buffer come new with each call: a struct of them is no plainer.
 pub fn start(
-    host: Host,
+    host: &mut Host,
     table: &[u8],
     interface: usize,
     name: usize,
-    time: u64,
-    id: u16,
+    moment: Moment,
     out: &mut [u8],
-) -> Step
-    ensures { done_by result out.new ≡ start_of host table.now interface name time id out.old }
+) -> Result<Outcome, Refusal>
+    ensures done { done_after host.new result out.new
+        ≡ start_of host.old table.now interface name moment.time moment.id out.old }
+    ensures refused { OnErr result (host.new ≡ host.old) }
+    ensures unwritten { OnErr result (out.new ≡ out.old) }
 {
-    let at = checks::slot(interface);
-    let here = host.interfaces[at];
-    let s = here.setting;
-    let names = here.names;
-    let n = name_at(names, name);
-    let a = served::start(s, host.clock, n, table, interface, name, time, id, out);
-    after(host, at, a)
+    let site = site(host, interface);
+    let state = state_at(&host.interfaces[checks::slot(interface)].names, name);
+    let served = served::start(site, state, table, name, moment, out)?;
+    Ok(take(host, interface, served, moment.time))
 }
 
-// Takes a datagram that came from an address and port to an address: it is answered, or settles who has the name.
+/// Takes a datagram that came to an interface: it is answered, or settles who has the name.
+///
+/// # Errors
+///
+/// The refusals 1 to 16, in the order of the rules; the host and the buffer stay as they are.
 pub fn receive(
-    host: Host,
+    host: &mut Host,
     table: &[u8],
     interface: usize,
-    from: Endpoint,
-    to: Address,
-    datagram: &[u8],
-    time: u64,
-    id: u16,
+    arrival: Arrival,
+    moment: Moment,
     out: &mut [u8],
-) -> Step
-    ensures { done_by result out.new ≡ receive_of host (record { table = table.now; interface = interface; from = from; to = to; datagram = datagram.now; time = time; id = id; out = out.old }) }
+) -> Result<Outcome, Refusal>
+    ensures done { done_after host.new result out.new
+        ≡ receive_of host.old
+        (record {
+          table = table.now;
+          interface = interface;
+          from = arrival.entry.from;
+          to = arrival.entry.to;
+          datagram = arrival.entry.datagram.now;
+          time = moment.time;
+          id = moment.id;
+          out = out.old;
+        }) }
+    ensures refused { OnErr result (host.new ≡ host.old) }
+    ensures unwritten { OnErr result (out.new ≡ out.old) }
 {
-    let at = checks::slot(interface);
-    let here = host.interfaces[at];
-    let s = here.setting;
-    let clock = host.clock;
-    let room = out.len();
-    let h = heard::hear(room, s, clock, table, interface, from, to, datagram, time);
-    let names = here.names;
-    let n = name_at(names, h.name);
-    let interfaces = host.interfaces;
-    let all = Interface::settings(interfaces);
-    let a = heard::answer(
-        h, n, all, s, clock, table, interface, from, datagram, time, id, out,
-    );
-    after(host, at, a)
+    let site = site(host, interface);
+    let call = Call {
+        table,
+        arrival,
+        moment,
+    };
+    let heard = heard::hear(out.len(), site, call)?;
+    let state = state_at(&host.interfaces[checks::slot(interface)].names, heard.name);
+    let settings = Interface::settings(&host.interfaces);
+    let served = heard::answer(heard, state, &settings, site, call, out)?;
+    Ok(take(host, interface, served, moment.time))
 }
 
-// Serves the lowest-numbered name of the table that is due on an interface. The ID is not used: a repeat carries the first one.
-pub fn tick(host: Host, table: &[u8], interface: usize, time: u64, id: u16, out: &mut [u8]) -> Step
-    ensures { done_by result out.new ≡ tick_of host table.now interface time id out.old }
+/// Serves the lowest-numbered name of the table that is due on an interface. The ID is not used: a
+/// repeat carries the first one.
+///
+/// # Errors
+///
+/// `Room`, `Table`, `Interface` or `Clock`, in this order; the host and the buffer stay as they
+/// are.
+pub fn tick(
+    host: &mut Host,
+    table: &[u8],
+    interface: usize,
+    moment: Moment,
+    out: &mut [u8],
+) -> Result<Outcome, Refusal>
+    ensures done { done_after host.new result out.new
+        ≡ tick_of host.old table.now interface moment.time moment.id out.old }
+    ensures refused { OnErr result (host.new ≡ host.old) }
+    ensures unwritten { OnErr result (out.new ≡ out.old) }
 {
-    let at = checks::slot(interface);
-    let here = host.interfaces[at];
-    let s = here.setting;
-    let names = here.names;
-    let k = turn::find_due(names, time);
-    let n = name_at(names, k);
-    let a = served::tick(s, host.clock, k, n, table, interface, time, id, out);
-    after(host, at, a)
+    let site = site(host, interface);
+    let due = turn::find_due(&host.interfaces[checks::slot(interface)].names, moment.time);
+    let served = served::tick(site, due, table, moment, out)?;
+    Ok(take(host, interface, served, moment.time))
 }

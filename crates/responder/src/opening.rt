@@ -1,65 +1,28 @@
 // How a call after set-up opens: the checks 1 to 4, on numbers alone, and the reading of the table.
-ghost use Rattle.std.specs.Prelude.{◌≡◌, true};
+ghost use Rattle.std.specs.Prelude.{◌≡◌, ◌≤◌, IfOk};
+ghost use Rattle.host.specs.Bounds.{latest};
 ghost use Rattle.responder.specs.Opening.{opened_by, opening};
 
+use crate::served::Site;
 use host::Host;
 use name_table::Table;
 use refusal::Refusal;
 
-// What the opening comes to: a refusal, or none and the names of the table.
-#[derive(Clone, Copy)]
-pub(crate) struct Opening {
-    pub(crate) refused: bool,
-    pub(crate) refusal: Refusal,
-    pub(crate) table: Table,
-}
-
-fn refuse(refusal: Refusal) -> Opening
-    ensures refused_value { result.refused ≡ true }
-    ensures refusal_value { result.refusal ≡ refusal }
-{
-    let none = Table {
-        kinds: [0; Table::NAMES],
-        starts: [0; Table::NAMES],
-        ends: [0; Table::NAMES],
-        names: 0,
-    };
-    Opening {
-        refused: true,
-        refusal: refusal,
-        table: none,
-    }
-}
-
-// The octets of the buffer, the table, the interface's number and family, the last accepted time and the call's.
-pub(crate) fn open(
-    size: usize,
-    table: &[u8],
-    interface: usize,
-    family: u8,
-    clock: u64,
-    time: u64,
-) -> Opening
-    ensures { opened_by result table.now ≡ opening size table.now interface family clock time }
+// The names of the table, for a call at a time with a buffer of so many octets.
+pub(crate) fn open(size: usize, site: Site, table: &[u8], time: u64) -> Result<Table, Refusal>
+    ensures opened { opened_by result table.now
+        ≡ opening size table.now site.interface site.setting.family site.clock time }
+    ensures in_range { IfOk result (λ _. time ≤ latest) }
 {
     if size < Host::ROOM {
-        return refuse(Refusal::Room);
+        return Err(Refusal::Room);
     }
-    let read = Table::read(table);
-    if !read.good {
-        let at = read.at;
-        return refuse(Refusal::Table { at: at });
+    let names = Table::read(table)?;
+    if checks::is_unused(site.interface, site.setting.family) {
+        return Err(Refusal::Interface);
     }
-    if checks::is_unused(interface, family) {
-        return refuse(Refusal::Interface);
+    if checks::bad_clock(site.clock, time) {
+        return Err(Refusal::Clock);
     }
-    if checks::bad_clock(clock, time) {
-        return refuse(Refusal::Clock);
-    }
-    let names = read.table;
-    Opening {
-        refused: false,
-        refusal: Refusal::Room,
-        table: names,
-    }
+    Ok(names)
 }

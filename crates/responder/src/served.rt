@@ -1,178 +1,137 @@
-// A start and a tick in terms of one name: what they look at of the host is given, and what they make of it is told. So the host may be held
-// in any form.
-ghost use Rattle.std.specs.Prelude.{◌≡◌, ℕ, true, if◌then◌else◌, nat_lt};
-ghost use Rattle.name_table.specs.Bounds.{most_names};
-ghost use Rattle.name_table.specs.Check.{good, check_table};
-ghost use Rattle.name_table.specs.Shown.{names_of};
-ghost use Rattle.host.specs.State.{off_name, setting_of, state_of, interface_of};
-ghost use Rattle.host.specs.Outcomes.{nowhere, result_of};
+// A start and a tick in terms of one name: what they look at of the host is given, and what they
+// make of it is told. So the host may be held in any form.
+ghost use Rattle.std.specs.Prelude.{◌≡◌, OnErr, Ok, Some, None};
+ghost use Rattle.host.specs.State.{state_of, interface_of};
 ghost use Rattle.host.specs.Start.{start as start_of};
-ghost use Rattle.host.specs.Tick.{due, none, due_from, tick as tick_of};
+ghost use Rattle.host.specs.Tick.{tick as tick_of};
 ghost use Rattle.host.specs.declared.Host.{Host};
 ghost use Rattle.checks.specs.Messages.{slot_of};
-ghost use Rattle.responder.specs.Turn.{turned};
-ghost use Rattle.responder.specs.Served.{Sees, changes, name_told, served_by, Serves};
+ghost use Rattle.responder.specs.Turn.{served_as, written_as};
+ghost use Rattle.responder.specs.Served.{Sees, due_found, served_by, IsWithin};
 
-use crate::contest::Told;
-use crate::turn::Turn;
-use crate::{opening, query, turn};
-use host::{Name, NameState, Outcome};
-use name_table::Table;
-use octets::{Endpoint, Setting};
+use crate::{opening, turn};
+use host::{Moment, NameState, Outcome};
+use message::ResourceRecord;
+use octets::Setting;
 use refusal::Refusal;
 
-// What a call comes to: if the name that its outcome tells has a new state, that one, else Off; the clock; the outcome; and where the octets
-// written are to be sent.
-#[derive(Clone, Copy)]
-pub struct Served {
-    pub name: Name,
+/// The interface that a call is made on: its number, its settings, and the host's clock, which is
+/// the last accepted time in milliseconds.
+#[derive(Clone, Copy, PartialEq, Eq, Debug)]
+pub struct Site {
+    pub interface: usize,
+    pub setting: Setting,
     pub clock: u64,
+}
+
+/// A name of the table, by its number, and its state on an interface.
+#[derive(Clone, Copy, PartialEq, Eq, Debug)]
+pub struct NamedState {
+    pub name: usize,
+    pub state: NameState,
+}
+
+/// What an accepted call comes to: its outcome, and the new state of the name that this tells of,
+/// if it has one. The clock then stands at the call's time.
+#[derive(Clone, Copy, PartialEq, Eq, Debug)]
+pub struct Served {
     pub outcome: Outcome,
-    pub to: Endpoint,
+    pub change: Option<NamedState>,
 }
 
-// No name has a new state, and nothing is sent.
-pub(crate) fn rest(clock: u64, outcome: Outcome) -> Served
-    ensures { result ≡ record { name = off_name; clock = clock; outcome = outcome; to = nowhere } }
+// A name goes over to a state: while that is Verifying its query goes out, else it has come to
+// rest.
+fn serve(site: Site, next: NameState, name: usize, octets: &[u8], out: &mut [u8]) -> Served
+    ensures served { result ≡ served_as next name octets.now site.setting.family }
+    ensures written { out.new ≡ written_as next octets.now out.old }
 {
-    let name = Name {
-        state: NameState::Off,
-    };
-    let to = host::nowhere();
-    Served {
-        name,
-        clock,
-        outcome,
-        to,
-    }
-}
-
-// The octets written are a reply, to where the query came from.
-pub(crate) fn reply(clock: u64, len: usize, to: Endpoint) -> Served
-    ensures { result ≡ record { name = off_name; clock = clock; outcome = Outcome.Reply len; to = to } }
-{
-    let name = Name {
-        state: NameState::Off,
-    };
-    let outcome = Outcome::Reply { len };
-    Served {
-        name,
-        clock,
-        outcome,
-        to,
-    }
-}
-
-// How a contest has ended is told.
-pub(crate) fn told(name: Name, clock: u64, told: Told) -> Served
-    ensures { result ≡ record { name = name; clock = clock; outcome = told.outcome; to = told.to } }
-{
-    let outcome = told.outcome;
-    let to = told.to;
-    Served {
-        name,
-        clock,
-        outcome,
-        to,
-    }
-}
-
-// A turn of the k-th name: its query goes out, or it is at rest, which is told.
-fn serve(
-    turn: Turn,
-    settled: Outcome,
-    k: usize,
-    family: u8,
-    names: Table,
-    table: &[u8],
-    time: u64,
-    out: &mut [u8],
-) -> Served
-    ensures { (h : Host) (i : ℕ) → check_table table.now ≡ good (names_of table.now names) → (setting_of h i).family ≡ family → changes (result_of settled) ≡ true → name_told (result_of settled) ≡ k → (served_by result out.new h i ≡ turned turn (result_of settled) h table.now i k time out.old) × (name_told (result_of result.outcome) ≡ k) }
-{
-    let name = turn.name;
-    let clock = time;
-    if turn.asks {
-        let len = query::write(turn.id, query::octets_of(names, table, k), out);
-        let outcome = Outcome::Query { name: k, len };
-        let to = octets::group_endpoint(family);
-        return Served {
+    let outcome = match next {
+        NameState::Verifying { id, .. } => Outcome::Query {
             name,
-            clock,
-            outcome,
-            to,
-        };
-    }
-    let outcome = settled;
-    let to = host::nowhere();
+            len: message::write_name_query(
+                out,
+                id,
+                0,
+                octets,
+                ResourceRecord::ANY,
+                ResourceRecord::IN,
+            ),
+            to: octets::group_endpoint(site.setting.family),
+        },
+        NameState::Shared => Outcome::Shared { name },
+        // A start or a tick gives no other state but Unique.
+        _ => Outcome::Unique { name },
+    };
     Served {
-        name,
-        clock,
         outcome,
-        to,
+        change: Some(NamedState { name, state: next }),
     }
 }
 
-// A start of the k-th name, of its state.
+/// A start of a name, by its number and its state.
+///
+/// # Errors
+///
+/// `Room`, `Table`, `Interface`, `Clock`, `NotOurs`, `Busy` or `TooSoon`, in this order; the buffer
+/// stays as it is.
 pub fn start(
-    setting: Setting,
-    clock: u64,
-    name: Name,
+    site: Site,
+    state: NameState,
     table: &[u8],
-    interface: usize,
-    k: usize,
-    time: u64,
-    id: u16,
+    name: usize,
+    moment: Moment,
     out: &mut [u8],
-) -> Served
-    ensures { (h : Host) → Sees h interface setting clock → state_of h (slot_of interface) k ≡ name.state → Serves result out.new h interface (start_of h table.now interface k time id out.old) }
+) -> Result<Served, Refusal>
+    ensures gives { (h : Host) → Sees h site.interface site.setting site.clock
+        → state_of h (slot_of site.interface) name ≡ state
+        → served_by result out.new h site.interface moment.time
+        ≡ start_of h table.now site.interface name moment.time moment.id out.old }
+    ensures within { IsWithin result site.interface }
+    ensures unwritten { OnErr result (out.new ≡ out.old) }
 {
-    let o = opening::open(out.len(), table, interface, setting.family, clock, time);
-    if o.refused {
-        let why = o.refusal;
-        return rest(clock, Outcome::Refused(why));
-    }
-    let t = o.table;
-    if Table::count(t.names) <= k {
-        return rest(clock, Outcome::Refused(Refusal::NotOurs));
-    }
-    let state = name.state;
-    if !turn::is_idle(state) {
-        return rest(clock, Outcome::Refused(Refusal::Busy));
-    }
-    if turn::is_too_soon(state, time) {
-        return rest(clock, Outcome::Refused(Refusal::TooSoon));
-    }
-    let a = turn::first(name_table::kind_of(t.kinds[k]), id, setting, time);
-    let settled = Outcome::Shared { name: k };
-    serve(a, settled, k, setting.family, t, table, time, out)
+    let names = opening::open(out.len(), site, table, moment.time)?;
+    let Some(named) = names.name(name) else {
+        return Err(Refusal::NotOurs);
+    };
+    turn::check_start(state, moment.time)?;
+    let timer = turn::timer(site.setting, moment.time);
+    let next = turn::first_state(named.kind, moment.id, timer);
+    let octets = octets::part(table, named.start, named.end);
+    Ok(serve(site, next, name, octets, out))
 }
 
-// A tick, of the number and the state of the first name that is due. A number that no name of the table has: none is due.
+/// A tick, of the first name that is due.
+///
+/// # Errors
+///
+/// `Room`, `Table`, `Interface` or `Clock`, in this order; the buffer stays as it is.
 pub fn tick(
-    setting: Setting,
-    clock: u64,
-    k: usize,
-    name: Name,
+    site: Site,
+    due: Option<NamedState>,
     table: &[u8],
-    interface: usize,
-    time: u64,
-    id: u16,
+    moment: Moment,
     out: &mut [u8],
-) -> Served
-    ensures { (h : Host) → Sees h interface setting clock → due_from most_names (interface_of h (slot_of interface)).names 0 time ≡ (if nat_lt k most_names then due k else none) → state_of h (slot_of interface) k ≡ name.state → Serves result out.new h interface (tick_of h table.now interface time id out.old) }
+) -> Result<Served, Refusal>
+    ensures gives { (h : Host) → Sees h site.interface site.setting site.clock
+        → due ≡ due_found (interface_of h (slot_of site.interface)).names moment.time
+        → served_by result out.new h site.interface moment.time
+        ≡ tick_of h table.now site.interface moment.time moment.id out.old }
+    ensures within { IsWithin result site.interface }
+    ensures unwritten { OnErr result (out.new ≡ out.old) }
 {
-    let o = opening::open(out.len(), table, interface, setting.family, clock, time);
-    if o.refused {
-        let why = o.refusal;
-        return rest(clock, Outcome::Refused(why));
-    }
-    let t = o.table;
-    if Table::count(t.names) <= k {
-        return rest(time, Outcome::Quiet);
-    }
-    let state = name.state;
-    let a = turn::again(state, setting, time);
-    let settled = Outcome::Unique { name: k };
-    serve(a, settled, k, setting.family, t, table, time, out)
+    let names = opening::open(out.len(), site, table, moment.time)?;
+    let quiet = Served {
+        outcome: Outcome::Quiet,
+        change: None,
+    };
+    let Some(due) = due else {
+        return Ok(quiet);
+    };
+    // The first that is due of all names is none of the table's: then none of the table's is due.
+    let Some(named) = names.name(due.name) else {
+        return Ok(quiet);
+    };
+    let next = turn::next_state(due.state, turn::timer(site.setting, moment.time));
+    let octets = octets::part(table, named.start, named.end);
+    Ok(serve(site, next, due.name, octets, out))
 }

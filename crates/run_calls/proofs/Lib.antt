@@ -1,3 +1,2 @@
-pub mod EntryLaws
 pub mod LineLaws
-pub mod PieceLaws
+pub mod RunLaws

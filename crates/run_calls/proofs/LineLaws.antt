@@ -1,61 +1,113 @@
--- Laws of octets in hexadecimal, and of a buffer that is filled.
-use Prim.Native.Nat.{ℕ, suc, zero, ◌+◌, ◌*◌, ◌/◌, ◌%◌, ◌<◌, ◌≤◌}
-use mathlib.Core.Path.{◌≡◌, refl, sym, ap, ◌∙◌}
-use mathlib.Core.List.{List, [], ◌∷◌, ◌++◌}
-use native.Mathlib.Omega.{arith}
-use native.Mathlib.Numerals.{add-one}
-use lib.ListN.{length, get_or, take, set, replicate}
-use lib.Seq.{take-suc, take-suc-set, take_all, take-length, length-take-le}
+-- Laws of octets in hexadecimal, and of the line of a refusal.
+use Rattle.std.proofs.Common.{ℕ, suc, zero, ◌-◌, ◌/◌, ◌%◌, ◌<◌, ◌≤◌, ◌≡◌, refl, ap, ◌∙◌, List, [], ◌∷◌, ◌++◌, arith, get_or, length, replicate, take, codes, decimal, Some}
+use Rattle.std.proofs.lemmas.List.{append-nil, append_assoc}
+use Rattle.std.specs.List.{concat}
+use Rattle.std.proofs.lemmas.List.Folds.{concat-append}
+use Rattle.octets.specs.Octets.{part_of, put}
+use Rattle.octets.proofs.Octets.{part_in}
+use Rattle.octets.proofs.Splice.{length_put, front}
+use Rattle.names.specs.Bounds.{longest_name}
+use Rattle.names.specs.RecordNameWalk.{record_name_at, expanded_at}
+use Rattle.names.specs.declared.RecordName.{RecordName}
+use Rattle.names.proofs.RecordNameWalk.{record_name_fits}
+use Rattle.names.proofs.Expansion.{expanded_length}
 use Rattle.std.specs.Char.{digit_char}
-use Rattle.octets.specs.Octets.{splice}
-use Rattle.octets.proofs.Splice.{two, splice_splice, splice_none, length_splice}
+use Rattle.hex.specs.Hex.{IsBytes, encode_lower, encode_with, lower_digits}
 use Rattle.run_calls.specs.Lines.{hex_of}
+use Rattle.run_calls.specs.Pieces.{field, line_end, name_pieces, name_read_pieces, refusal_pieces}
+use Rattle.refusal.specs.Numbers.{number_of}
+use Rattle.refusal.specs.declared.Refusal.{Refusal}
+use Rattle.refusal.specs.declared.Refusal.TheVariants.{Room, Table, Interface, Clock, Length}
+use Rattle.refusal.specs.declared.Refusal.TheVariants.{Address, Opcode, Rcode, Counts, Question}
+use Rattle.refusal.specs.declared.Refusal.TheVariants.{Class, NotOurs, Stopped, Notification}
+use Rattle.refusal.specs.declared.Refusal.TheVariants.{Unmatched, Own, Tentative, Records, Busy}
+use Rattle.refusal.specs.declared.Refusal.TheVariants.{Settings, TooSoon, SeveralLabels}
 
-pub length_hex : (s : List ℕ) → length (hex_of s) ≡ length s * 2
-unfolding hex_of
-length_hex [] = refl
-length_hex (c ∷ s) = let h = length_hex s in omega arith
+-- a digit of the table of 16
+low : (n : ℕ) → n < 16 → get_or lower_digits n 0 ≡ digit_char n
+low zero h = refl
+low (suc zero) h = refl
+low (suc (suc zero)) h = refl
+low (suc (suc (suc zero))) h = refl
+low (suc (suc (suc (suc zero)))) h = refl
+low (suc (suc (suc (suc (suc zero))))) h = refl
+low (suc (suc (suc (suc (suc (suc zero)))))) h = refl
+low (suc (suc (suc (suc (suc (suc (suc zero))))))) h = refl
+low (suc (suc (suc (suc (suc (suc (suc (suc zero)))))))) h = refl
+low (suc (suc (suc (suc (suc (suc (suc (suc (suc zero))))))))) h = refl
+low (suc (suc (suc (suc (suc (suc (suc (suc (suc (suc zero)))))))))) h = refl
+low (suc (suc (suc (suc (suc (suc (suc (suc (suc (suc (suc zero))))))))))) h = refl
+low (suc (suc (suc (suc (suc (suc (suc (suc (suc (suc (suc (suc zero)))))))))))) h = refl
+low (suc (suc (suc (suc (suc (suc (suc (suc (suc (suc (suc (suc (suc zero))))))))))))) h = refl
+low (suc (suc (suc (suc (suc (suc (suc (suc (suc (suc (suc (suc (suc (suc zero)))))))))))))) h = refl
+low (suc (suc (suc (suc (suc (suc (suc (suc (suc (suc (suc (suc (suc (suc (suc zero))))))))))))))) h = refl
+low (suc (suc (suc (suc (suc (suc (suc (suc (suc (suc (suc (suc (suc (suc (suc (suc n)))))))))))))))) h = absurd (omega arith)
 
-pub hex_append : (s t : List ℕ) → hex_of (s ++ t) ≡ hex_of s ++ hex_of t
-unfolding hex_of
-hex_append [] t = refl
-hex_append (c ∷ s) t = rw (hex_append s t)
+-- two digits for each octet
+pub hex_lower : (s : List ℕ) → IsBytes s → encode_lower s ≡ hex_of s
+unfolding encode_with hex_of
+hex_lower [] h = refl
+hex_lower (c ∷ s) h =
+    let b : c < 256 = h 0 in
+    rw (low (c / 16) (omega arith), low (c % 16) (omega arith), hex_lower s (λ i. h (suc i)))
 
--- no octet, and one octet more
-pub hex_none : (d : List ℕ) (s : List ℕ) → d ≡ splice d 0 (hex_of (take 0 s))
-unfolding hex_of
-hex_none d s = sym (splice_none d 0)
+-- a refusal for any reason but a bad table has no offset
+no_offset : (r : Refusal) → ((at : ℕ) → r ≡ Table at → ⊥)
+    → refusal_pieces r ≡ field (codes " refused no=") (number_of r)
+no_offset Room h = refl
+no_offset (Table at) h = absurd (h at refl)
+no_offset Interface h = refl
+no_offset Clock h = refl
+no_offset Length h = refl
+no_offset Address h = refl
+no_offset Opcode h = refl
+no_offset Rcode h = refl
+no_offset Counts h = refl
+no_offset Question h = refl
+no_offset Class h = refl
+no_offset NotOurs h = refl
+no_offset Stopped h = refl
+no_offset Notification h = refl
+no_offset Unmatched h = refl
+no_offset Own h = refl
+no_offset Tentative h = refl
+no_offset Records h = refl
+no_offset Busy h = refl
+no_offset Settings h = refl
+no_offset TooSoon h = refl
+no_offset SeveralLabels h = refl
 
-module _ (d₀ d s : List ℕ) (i : ℕ) (h : i < length s) (k : length s * 2 ≤ length d₀) (e : d ≡ splice d₀ 0 (hex_of (take i s))) where
-  written : length (hex_of (take i s)) ≡ i * 2
-  written = length_hex (take i s) ∙ ap (λ (n : ℕ). n * 2) (length-take-le i s (omega arith))
+pub without_offset : (r : Refusal) → ((at : ℕ) → r ≡ Table at → ⊥)
+    → concat (refusal_pieces r) ≡ codes " refused no=" ++ decimal (number_of r)
+without_offset r h = ap concat (no_offset r h) ∙ simp append-nil
 
-  one_more : hex_of (take (i + 1) s) ≡ hex_of (take i s) ++ (digit_char (get_or s i 0 / 16) ∷ digit_char (get_or s i 0 % 16) ∷ [])
-  unfolding hex_of
-  one_more = rw (add-one i, take-suc s i 0 h, hex_append)
+-- that of a bad table has one
+pub with_offset : (r : Refusal) (at : ℕ) → r ≡ Table at
+    → concat (refusal_pieces r)
+    ≡ codes " refused no=" ++ (decimal (number_of r) ++ (codes " at=" ++ decimal at))
+with_offset r at e = rw e (simp append-nil)
 
-  pub hex_more : set (set d (i * 2) (digit_char (get_or s i 0 / 16))) (i * 2 + 1) (digit_char (get_or s i 0 % 16)) ≡ splice d₀ 0 (hex_of (take (i + 1) s))
-  hex_more =
-      let ys : List ℕ = digit_char (get_or s i 0 / 16) ∷ digit_char (get_or s i 0 % 16) ∷ [] in
-      let w = written in
-      let r : 0 + length (hex_of (take i s)) ≤ length d₀ = omega arith in
-      let l : length d ≡ length d₀ = ap length e ∙ length_splice d₀ 0 (hex_of (take i s)) r in
-      let f : 0 + length (hex_of (take i s)) + length ys ≤ length d₀ = omega arith in
-      let q : 0 + length (hex_of (take i s)) ≡ i * 2 = omega arith in
-      two d (i * 2) _ _ (omega arith) ∙ ap (λ (x : List ℕ). splice x (i * 2) ys) e
-      ∙ ap (λ (n : ℕ). splice (splice d₀ 0 (hex_of (take i s))) n ys) (sym q)
-      ∙ splice_splice d₀ 0 (hex_of (take i s)) ys f ∙ ap (splice d₀ 0) (sym one_more)
+-- lines after lines
+pub ruleset joins = (concat-append, append-nil, append_assoc)
 
-pub hex_all : (d s : List ℕ) (i : ℕ) → i ≡ length s → splice d 0 (hex_of (take i s)) ≡ splice d 0 (hex_of s)
-hex_all d s i e = rw (e, take-length s)
+-- the expanded name of a record stands at the front of a buffer with room for any name
+pub expanded_front : (s : List ℕ) (at : ℕ) (r : RecordName) (out : List ℕ)
+    → record_name_at s at ≡ Some r → longest_name ≤ length out
+    → part_of (put out 0 (expanded_at s at)) 0 r.len ≡ expanded_at s at
+expanded_front s at r out e h =
+    let f = record_name_fits s at r e in
+    let xs : List ℕ = expanded_at s at in
+    let l : length xs ≡ r.len = expanded_length s at r e in
+    let k : length xs ≤ length out = omega arith in
+    let n : r.len - 0 ≡ length xs = omega arith in
+    part_in (put out 0 xs) 0 r.len (omega arith) (omega (arith, length_put out 0 xs))
+    ∙ ap (λ (m : ℕ). take m (put out 0 xs)) n ∙ front out xs k
 
--- a buffer that is filled
-snoc : (n a : ℕ) → replicate n a ++ (a ∷ []) ≡ replicate (suc n) a
-snoc zero a = refl
-snoc (suc n) a = ap (λ (l : List ℕ). a ∷ l) (snoc n a)
-
-pub filled_more : (d : List ℕ) (i a : ℕ) → i < length d → take i d ≡ replicate i a → take (i + 1) (set d i a) ≡ replicate (i + 1) a
-filled_more d i a h e = rw add-one (take-suc-set d i a h ∙ ap (λ (l : List ℕ). l ++ (a ∷ [])) e ∙ snoc i a)
-
-pub filled : (d : List ℕ) (i n a : ℕ) → i ≡ n → length d ≡ n → take i d ≡ replicate i a → d ≡ replicate n a
-filled d i n a e l t = sym (take_all i d (omega arith)) ∙ t ∙ ap (λ (k : ℕ). replicate k a) e
+-- and so it stands in the line
+pub expanded_text : (s : List ℕ) (at : ℕ) (r : RecordName) → record_name_at s at ≡ Some r
+    → concat (name_read_pieces (record_name_at s at) (expanded_at s at))
+    ≡ concat (name_pieces r (part_of (put (replicate longest_name 0) 0 (expanded_at s at)) 0 r.len))
+    ++ codes "\n"
+expanded_text s at r e =
+    rw (e, expanded_front s at r (replicate longest_name 0) e (omega arith))
+    (concat-append (name_pieces r (expanded_at s at)) line_end)

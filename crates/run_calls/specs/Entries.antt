@@ -1,44 +1,34 @@
 -- Entries of a call file: length and kind of two octets each, then the body; all integers little-endian.
-use Rattle.std.specs.Prelude.{ℕ, ◌+◌, ◌*◌, ◌-◌, List, [], ◌∷◌, Bool, true, false, cond, length, replicate, ltb, leb, eqb}
+use Rattle.std.specs.Prelude.{ℕ, ◌+◌, ◌*◌, ◌-◌, List, [], ◌∷◌, Bool, true, false, cond, length}
+use Rattle.std.specs.Prelude.{replicate, ltb, leb, eqb}
+use Rattle.std.specs.Prelude.{None, Option, Some, Result, Ok, Err}
 use Rattle.octets.specs.Octets.{octet_at, part_of, put}
 use Rattle.octets.specs.Words.{little_at}
 use Rattle.octets.specs.declared.Address.{Address}
 use Rattle.octets.specs.declared.Endpoint.{Endpoint}
 use Rattle.octets.specs.declared.Setting.{Setting}
 use Rattle.run_calls.specs.declared.entry.Kind.{Kind}
-use Rattle.run_calls.specs.declared.entry.Kind.TheVariants.{Table, SetUp, Start, Datagram, Tick, Settings, Ask, Answer, AskTick, Name, Unknown}
+use Rattle.run_calls.specs.declared.entry.Kind.TheVariants.{Table, SetUp, Start, Datagram, Tick}
+use Rattle.run_calls.specs.declared.entry.Kind.TheVariants.{Settings, Ask, Answer, AskTick, Name}
+use Rattle.run_calls.specs.declared.entry.Why.{Why}
 use Rattle.run_calls.specs.declared.entry.Why.TheVariants.{Cut, Short, Kind as KindWhy, Size}
-use Rattle.run_calls.specs.declared.entry.EntryRead.{EntryRead}
-use Rattle.run_calls.specs.declared.entry.EntryRead.TheVariants.{Whole, Bad}
+use Rattle.run_calls.specs.declared.entry.Entry.{Entry}
 use Rattle.run_calls.specs.declared.entry.Prefix.{Prefix}
 
 -- the kind with a number
-unfoldable pub kind_of : ℕ → Kind
+unfoldable pub kind_of : ℕ → Option Kind
 kind_of k =
-    cond (eqb k 31) Table
-    (cond (eqb k 32) SetUp
-    (cond (eqb k 33) Start
-    (cond (eqb k 34) Datagram
-    (cond (eqb k 35) Tick
-    (cond (eqb k 40) Settings
-    (cond (eqb k 41) Ask
-    (cond (eqb k 42) Answer
-    (cond (eqb k 43) AskTick
-    (cond (eqb k 54) Name
-    Unknown)))))))))
-
-abbrev pub is_unknown : Kind → Bool
-is_unknown Table = false
-is_unknown SetUp = false
-is_unknown Start = false
-is_unknown Datagram = false
-is_unknown Tick = false
-is_unknown Settings = false
-is_unknown Ask = false
-is_unknown Answer = false
-is_unknown AskTick = false
-is_unknown Name = false
-is_unknown Unknown = true
+    cond (eqb k 31) (Some Table)
+    (cond (eqb k 32) (Some SetUp)
+    (cond (eqb k 33) (Some Start)
+    (cond (eqb k 34) (Some Datagram)
+    (cond (eqb k 35) (Some Tick)
+    (cond (eqb k 40) (Some Settings)
+    (cond (eqb k 41) (Some Ask)
+    (cond (eqb k 42) (Some Answer)
+    (cond (eqb k 43) (Some AskTick)
+    (cond (eqb k 54) (Some Name)
+    None)))))))))
 
 -- a body of so many octets is one of this kind
 abbrev pub is_sized : Kind → ℕ → Bool
@@ -52,7 +42,6 @@ is_sized Ask n = leb 19 n
 is_sized Answer n = leb 56 n
 is_sized AskTick n = eqb n 16
 is_sized Name n = leb 2 n
-is_sized Unknown n = false
 
 -- slots, each of which holds a lookup
 abbrev pub slots : ℕ
@@ -70,7 +59,6 @@ is_slot Ask k = ltb k slots
 is_slot Answer k = ltb k slots
 is_slot AskTick k = ltb k slots
 is_slot Name k = true
-is_slot Unknown k = true
 
 -- an entry of this kind is about lookups
 abbrev pub is_of_lookup : Kind → Bool
@@ -84,7 +72,6 @@ is_of_lookup Ask = true
 is_of_lookup Answer = true
 is_of_lookup AskTick = true
 is_of_lookup Name = false
-is_of_lookup Unknown = false
 
 -- the octets of length and kind, and those with a prefix after them
 abbrev pub entry_head : ℕ
@@ -94,19 +81,19 @@ abbrev pub prefix_end : ℕ
 prefix_end = 19
 
 -- the entry of so many octets, of some kind, with some octet after its prefix
-unfoldable pub sized_entry : Kind → ℕ → ℕ → EntryRead
-sized_entry k n slot =
-    cond (is_unknown k) (Bad KindWhy)
-    (cond (is_sized k (n - entry_head))
-    (cond (is_slot k slot) (Whole (record { kind = k; len = n })) (Bad Size))
-    (Bad Size))
+unfoldable pub sized_entry : Option Kind → ℕ → ℕ → Result Entry Why
+sized_entry None n slot = Err KindWhy
+sized_entry (Some k) n slot =
+    cond (is_sized k (n - entry_head))
+    (cond (is_slot k slot) (Ok (record { kind = k; len = n })) (Err Size))
+    (Err Size)
 
 -- the entry at the start of s, or why there is none
-unfoldable pub entry_at : List ℕ → EntryRead
+unfoldable pub entry_at : List ℕ → Result Entry Why
 entry_at s =
-    cond (ltb (length s) entry_head) (Bad Cut)
-    (cond (ltb (length s) (little_at s 0)) (Bad Cut)
-    (cond (ltb (little_at s 0) entry_head) (Bad Short)
+    cond (ltb (length s) entry_head) (Err Cut)
+    (cond (ltb (length s) (little_at s 0)) (Err Cut)
+    (cond (ltb (little_at s 0) entry_head) (Err Short)
     (sized_entry (kind_of (little_at s 2)) (little_at s 0) (octet_at s prefix_end))))
 
 -- the table that is lent after an entry of some kind
@@ -121,7 +108,6 @@ lent_by Ask table body = table
 lent_by Answer table body = table
 lent_by AskTick table body = table
 lent_by Name table body = table
-lent_by Unknown table body = table
 
 -- numbers of four and of eight octets at an offset
 abbrev pub little32_at : List ℕ → ℕ → ℕ

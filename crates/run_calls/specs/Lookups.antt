@@ -14,7 +14,8 @@ use Rattle.lookup.specs.declared.Lookup.{Lookup}
 use Rattle.run_calls.specs.Entries.{slots, prefix_of, address_at, settings_of, source_of, slot_of}
 use Rattle.run_calls.specs.Pieces.{lookup_line, settings_line}
 use Rattle.run_calls.specs.declared.entry.Kind.{Kind}
-use Rattle.run_calls.specs.declared.entry.Kind.TheVariants.{Table, SetUp, Start, Datagram, Tick, Settings, Ask, Answer, AskTick, Name, Unknown}
+use Rattle.run_calls.specs.declared.entry.Kind.TheVariants.{Table, SetUp, Start, Datagram, Tick}
+use Rattle.run_calls.specs.declared.entry.Kind.TheVariants.{Settings, Ask, Answer, AskTick, Name}
 use Rattle.run_calls.specs.declared.lookups.Lookups.{Lookups}
 
 -- before the first entry: each slot has what a refused start gives, and the settings are the host's
@@ -36,7 +37,6 @@ after_entry Ask l h = l
 after_entry Answer l h = l
 after_entry AskTick l h = l
 after_entry Name l h = l
-after_entry Unknown l h = l
 
 -- the octets of a body after its slot and the room of the cache
 abbrev pub arrival_of : List ℕ → List ℕ
@@ -75,7 +75,6 @@ call_of Datagram settings l body out = ask_tick_of l body out
 call_of Tick settings l body out = ask_tick_of l body out
 call_of Settings settings l body out = ask_tick_of l body out
 call_of Name settings l body out = ask_tick_of l body out
-call_of Unknown settings l body out = ask_tick_of l body out
 
 -- the lookup of a slot
 abbrev pub lookup_at : Lookups → ℕ → Lookup

@@ -1,50 +1,33 @@
--- What is printed, piece by piece: the fields of docs/CALL-FILES.md, in its words and order. A
--- piece that does not fit is left out whole.
-use Rattle.std.specs.Prelude.{ℕ, List, [], ◌∷◌, ◌++◌, cond, length, codes, decimal}
-use Rattle.octets.specs.Octets.{part_of, put}
+-- What is printed, piece by piece: the fields of docs/CALL-FILES.md, in its words and order. A line
+-- is the pieces one after another.
+use Rattle.std.specs.Prelude.{ℕ, List, [], ◌∷◌, ◌++◌, length, codes, decimal}
+use Rattle.std.specs.Prelude.{None, Option, Some, Result, Ok, Err}
+use Rattle.octets.specs.Octets.{part_of}
 use Rattle.octets.specs.Words.{little_at}
 use Rattle.octets.specs.declared.Endpoint.{Endpoint}
 use Rattle.refusal.specs.Numbers.{Report, number, number_at, report_of}
 use Rattle.refusal.specs.declared.Refusal.{Refusal}
-use Rattle.refusal.specs.declared.Refusal.TheVariants.{Table as BadTable}
+use Rattle.refusal.specs.declared.Refusal.TheVariants.{Table as TableRefusal}
 use Rattle.host.specs.Outcomes.{CallResult, refused, ready, quiet, kept, query, reply}
 use Rattle.host.specs.Outcomes.{unique, shared, stopped}
+use Rattle.host.specs.declared.Host.{Host}
 use Rattle.lookup.specs.Outcomes.{CallResult as LookupResult, refused as lookup_refused}
 use Rattle.lookup.specs.Outcomes.{quiet as lookup_quiet, query as lookup_query}
 use Rattle.lookup.specs.Outcomes.{part, found, collected, no_such_name}
-use Rattle.name_table.specs.Shown.{table_read}
-use Rattle.name_table.specs.declared.TableRead.{TableRead}
+use Rattle.name_table.specs.Shown.{count_of, table_read}
+use Rattle.name_table.specs.declared.BadTable.{BadTable}
+use Rattle.name_table.specs.declared.Table.{Table as NameTable}
 use Rattle.names.specs.RecordNameWalk.{record_name_at, expanded_at}
 use Rattle.names.specs.declared.RecordName.{RecordName}
-use Rattle.names.specs.declared.RecordNameRead.{RecordNameRead}
-use Rattle.names.specs.declared.RecordNameRead.TheVariants.{Good, Bad as BadName}
-use Rattle.run_calls.specs.Lines.{hex_of, after}
-use Rattle.run_calls.specs.declared.entry.EntryRead.{EntryRead}
-use Rattle.run_calls.specs.declared.entry.EntryRead.TheVariants.{Whole, Bad}
+use Rattle.run_calls.specs.Lines.{hex_of}
+use Rattle.run_calls.specs.declared.entry.Entry.{Entry}
 use Rattle.run_calls.specs.declared.entry.Why.{Why}
 use Rattle.run_calls.specs.declared.entry.Why.TheVariants.{Cut, Short, Kind as KindWhy, Size, Long}
 use Rattle.run_calls.specs.declared.entry.Kind.{Kind}
 use Rattle.run_calls.specs.declared.entry.Kind.TheVariants.{Table, SetUp, Start, Datagram, Tick}
 use Rattle.run_calls.specs.declared.entry.Kind.TheVariants.{Settings, Ask, Answer, AskTick}
-use Rattle.run_calls.specs.declared.entry.Kind.TheVariants.{Name, Unknown}
+use Rattle.run_calls.specs.declared.entry.Kind.TheVariants.{Name}
 use Rattle.run_calls.specs.declared.entry.Prefix.{Prefix}
-
--- a text, and the offset after what is written in it
-pub record Written : Type 0 where
-  pub octets : List ℕ
-  pub end : ℕ
-
-abbrev pub written_so : List ℕ → ℕ → Written
-written_so text at = record { octets = text; end = at }
-
--- a piece more, or the same where it does not fit
-unfoldable pub put_piece : Written → List ℕ → Written
-put_piece w xs = record { octets = put w.octets w.end xs; end = after w.octets w.end (length xs) }
-
--- pieces one after another
-abbrev pub put_pieces : Written → List (List ℕ) → Written
-put_pieces w [] = w
-put_pieces w (x ∷ xs) = put_pieces (put_piece w x) xs
 
 -- a field: its label with the space before it, and its number
 abbrev pub field : List ℕ → ℕ → List (List ℕ)
@@ -54,18 +37,21 @@ field label n = label ∷ decimal n ∷ []
 abbrev pub line_end : List (List ℕ)
 line_end = codes "\n" ∷ []
 
+-- the word for a kind of entry
+unfoldable pub name_of : Kind → List ℕ
+name_of Table = codes "table"
+name_of SetUp = codes "set-up"
+name_of Start = codes "start"
+name_of Datagram = codes "datagram"
+name_of Tick = codes "tick"
+name_of Settings = codes "settings"
+name_of Ask = codes "ask"
+name_of Answer = codes "answer"
+name_of AskTick = codes "ask-tick"
+name_of Name = codes "name"
+
 abbrev pub word_of : Kind → List (List ℕ)
-word_of Table = codes " table" ∷ []
-word_of SetUp = codes " set-up" ∷ []
-word_of Start = codes " start" ∷ []
-word_of Datagram = codes " datagram" ∷ []
-word_of Tick = codes " tick" ∷ []
-word_of Settings = codes " settings" ∷ []
-word_of Ask = codes " ask" ∷ []
-word_of Answer = codes " answer" ∷ []
-word_of AskTick = codes " ask-tick" ∷ []
-word_of Name = codes " name" ∷ []
-word_of Unknown = []
+word_of kind = (codes " " ++ name_of kind) ∷ []
 
 -- the number and the kind of an entry
 abbrev pub entry_pieces : ℕ → Kind → List (List ℕ)
@@ -132,6 +118,15 @@ abbrev pub call_line : ℕ → Kind → Prefix → CallResult → Endpoint → L
 call_line n kind p result to out =
     entry_pieces n kind ++ prefix_pieces p ++ outcome_pieces result to out ++ line_end
 
+-- a host that is set up, or the refusal
+abbrev pub ready_pieces : Result Host Refusal → List (List ℕ)
+ready_pieces (Ok h) = codes " ready" ∷ []
+ready_pieces (Err why) = refusal_pieces why
+
+-- the line of a set-up
+abbrev pub set_up_line : ℕ → Prefix → Result Host Refusal → List (List ℕ)
+set_up_line n p call = entry_pieces n SetUp ++ prefix_pieces p ++ ready_pieces call ++ line_end
+
 -- the line of a lookup's call
 abbrev pub lookup_line : ℕ → Kind → Prefix → LookupResult → Endpoint → List ℕ → List (List ℕ)
 lookup_line n kind p result to out =
@@ -142,11 +137,9 @@ abbrev pub settings_line : ℕ → List (List ℕ)
 settings_line n = entry_pieces n Settings ++ line_end
 
 -- a good table, by its number of names; or the refusal of a bad one
-abbrev pub table_pieces : TableRead → List (List ℕ)
-table_pieces read =
-    cond read.good
-    (field (codes " good names=") read.table.names)
-    (refusal_pieces (BadTable read.at))
+abbrev pub table_pieces : Result NameTable BadTable → List (List ℕ)
+table_pieces (Ok t) = field (codes " good names=") (count_of t)
+table_pieces (Err bad) = refusal_pieces (TableRefusal bad.at)
 
 -- the line of a table
 abbrev pub table_line : ℕ → List ℕ → List (List ℕ)
@@ -158,9 +151,9 @@ name_pieces r expanded =
     field (codes " next=") r.next ++ field (codes " pointers=") r.pointers
     ++ field (codes " labels=") r.labels ++ (codes " name=" ∷ hex_of expanded ∷ [])
 
-abbrev pub name_read_pieces : RecordNameRead → List ℕ → List (List ℕ)
-name_read_pieces (Good r) expanded = name_pieces r expanded ++ line_end
-name_read_pieces BadName expanded = codes " bad\n" ∷ []
+abbrev pub name_read_pieces : Option RecordName → List ℕ → List (List ℕ)
+name_read_pieces (Some r) expanded = name_pieces r expanded ++ line_end
+name_read_pieces None expanded = codes " bad\n" ∷ []
 
 -- the message of a body that begins with an offset of two octets
 abbrev pub message_of : List ℕ → List ℕ
@@ -174,14 +167,17 @@ name_line n body =
     (expanded_at (message_of body) (little_at body 0))
 
 -- why a run ends
+abbrev pub word_for : Why → List ℕ
+word_for Cut = codes "cut"
+word_for Short = codes "short"
+word_for KindWhy = codes "kind"
+word_for Size = codes "size"
+word_for Long = codes "long"
+
 abbrev pub why_pieces : Why → List (List ℕ)
-why_pieces Cut = codes " why=cut\n" ∷ []
-why_pieces Short = codes " why=short\n" ∷ []
-why_pieces KindWhy = codes " why=kind\n" ∷ []
-why_pieces Size = codes " why=size\n" ∷ []
-why_pieces Long = codes " why=long\n" ∷ []
+why_pieces why = (codes " why=" ++ word_for why ++ codes "\n") ∷ []
 
 -- the line of a run that ends at an offset before its file does; none where an entry was read there
-abbrev pub end_line : ℕ → EntryRead → List (List ℕ)
-end_line offset (Bad why) = field (codes "end at=") offset ++ why_pieces why
-end_line offset (Whole e) = []
+abbrev pub end_line : ℕ → Result Entry Why → List (List ℕ)
+end_line offset (Err why) = field (codes "end at=") offset ++ why_pieces why
+end_line offset (Ok e) = []

@@ -1,12 +1,21 @@
-// Entries of a call file: where each stands, and what its body says. All integers are little-endian.
-ghost use Rattle.std.specs.Prelude.{◌≡◌, not, min, ◌<◌, length, eqb};
+// Entries of a call file: where each stands, and what its body says. All integers are
+// little-endian. An octet past the end of a body reads as 0.
+ghost use Rattle.std.specs.Prelude.{◌≡◌, not, min, ◌<◌, ◌≤◌, length, eqb, ok_or, IfOk, Some};
 ghost use Rattle.octets.specs.Octets.{octet_at, part_of};
 ghost use Rattle.octets.specs.Words.{little_at};
-ghost use Rattle.run_calls.specs.Entries.{slots, kind_of, is_unknown, is_sized, is_slot, is_of_lookup, entry_at, lent_by, little32_at, little64_at, prefix_of, address_octets, address_at, setting_at, settings_of, source_of, slot_of};
+ghost use Rattle.run_calls.specs.Entries.{slots, kind_of, is_sized, is_slot, entry_at};
+ghost use Rattle.run_calls.specs.Entries.{little32_at, little64_at, prefix_of, address_at};
+ghost use Rattle.run_calls.specs.Entries.{setting_at, settings_of, source_of, slot_of};
+ghost use Rattle.run_calls.specs.Pieces.{name_of, word_for};
+ghost use Rattle.run_calls.specs.declared.entry.Why.TheVariants.{Kind as KindWhy};
 
+use host::{Arrival, Moment};
+use lookup::Asked;
 use octets::{Address, Endpoint, Setting};
+use std::fmt;
 
-#[derive(Clone, Copy)]
+/// What an entry is.
+#[derive(Clone, Copy, PartialEq, Eq, Debug)]
 pub enum Kind {
     Table,
     SetUp,
@@ -18,18 +27,17 @@ pub enum Kind {
     Answer,
     AskTick,
     Name,
-    Unknown,
 }
 
-// An entry: its kind, and its length with the head.
-#[derive(Clone, Copy)]
+/// An entry: its kind, and its length in octets with the head.
+#[derive(Clone, Copy, PartialEq, Eq, Debug)]
 pub struct Entry {
     pub kind: Kind,
     pub len: usize,
 }
 
-// Why a run ends before the file does.
-#[derive(Clone, Copy)]
+/// Why a run ends before the file does.
+#[derive(Clone, Copy, PartialEq, Eq, Debug)]
 pub enum Why {
     Cut,
     Short,
@@ -38,14 +46,10 @@ pub enum Why {
     Long,
 }
 
-#[derive(Clone, Copy)]
-pub enum EntryRead {
-    Whole(Entry),
-    Bad(Why),
-}
-
-// What most bodies begin with.
-#[derive(Clone, Copy)]
+/// What most bodies begin with: the number of an interface, a time in milliseconds, an ID, and how
+/// many octets of buffer are to be lent.
+// Time and ID stand by themselves, as lines print them: a Moment inside is no plainer.
+#[derive(Clone, Copy, PartialEq, Eq, Debug)]
 pub struct Prefix {
     pub interface: u8,
     pub time: u64,
@@ -53,184 +57,220 @@ pub struct Prefix {
     pub room: u32,
 }
 
+impl TryFrom<u16> for Kind {
+    type Error = Why;
+
+    ghost try_from_gives = { λ number result. result ≡ ok_or (kind_of number) KindWhy };
+
+    #[tactic(auto, unfolding(crate::specs::Entries::kind_of))]
+    fn try_from(number: u16) -> Result<Kind, Why> {
+        match number {
+            31 => Ok(Kind::Table),
+            32 => Ok(Kind::SetUp),
+            33 => Ok(Kind::Start),
+            34 => Ok(Kind::Datagram),
+            35 => Ok(Kind::Tick),
+            40 => Ok(Kind::Settings),
+            41 => Ok(Kind::Ask),
+            42 => Ok(Kind::Answer),
+            43 => Ok(Kind::AskTick),
+            54 => Ok(Kind::Name),
+            _ => Err(Why::Kind),
+        }
+    }
+}
+
+/// The word that stands in a line.
+impl fmt::Display for Kind {
+    ghost output = { λ kind. Some (name_of kind) };
+
+    #[tactic(auto, unfolding(crate::specs::Pieces::name_of))]
+    fn fmt<W: fmt::Write>(&self, f: &mut fmt::Formatter<W>) -> fmt::Result {
+        match self {
+            Kind::Table => write!(f, "table"),
+            Kind::SetUp => write!(f, "set-up"),
+            Kind::Start => write!(f, "start"),
+            Kind::Datagram => write!(f, "datagram"),
+            Kind::Tick => write!(f, "tick"),
+            Kind::Settings => write!(f, "settings"),
+            Kind::Ask => write!(f, "ask"),
+            Kind::Answer => write!(f, "answer"),
+            Kind::AskTick => write!(f, "ask-tick"),
+            Kind::Name => write!(f, "name"),
+        }
+    }
+}
+
+/// The word that stands in the last line.
+impl fmt::Display for Why {
+    ghost output = { λ why. Some (word_for why) };
+
+    fn fmt<W: fmt::Write>(&self, f: &mut fmt::Formatter<W>) -> fmt::Result {
+        match self {
+            Why::Cut => write!(f, "cut"),
+            Why::Short => write!(f, "short"),
+            Why::Kind => write!(f, "kind"),
+            Why::Size => write!(f, "size"),
+            Why::Long => write!(f, "long"),
+        }
+    }
+}
+
+impl Kind {
+    // Whether a body of so many octets is one of this kind.
+    fn is_sized(self, octets: usize) -> bool
+        ensures { result ≡ is_sized self octets }
+    {
+        match self {
+            Kind::Table => true,
+            Kind::SetUp => octets == 91,
+            Kind::Start => octets == 16,
+            Kind::Datagram => 51 <= octets,
+            Kind::Tick => octets == 15,
+            Kind::Settings => octets == 76,
+            Kind::Ask => 19 <= octets,
+            Kind::Answer => 56 <= octets,
+            Kind::AskTick => octets == 16,
+            Kind::Name => 2 <= octets,
+        }
+    }
+
+    // Whether an entry of this kind may have this octet after its prefix: where it is the number
+    // of a slot, there is one.
+    fn is_slot(self, octet: u8) -> bool
+        ensures { result ≡ is_slot self octet }
+    {
+        match self {
+            Kind::Ask | Kind::Answer | Kind::AskTick => usize::from(octet) < Entry::SLOTS,
+            _ => true,
+        }
+    }
+}
+
 impl Entry {
-    // Octets of a file at the most, of an entry before its body, of a prefix, and of an address.
+    /// Octets of a file at the most.
     pub const FILE: usize = 262144;
 
+    /// Octets of an entry before its body.
     pub const HEAD: usize = 4;
 
-    pub const PREFIX: usize = 15;
-
-    pub const ADDRESS: usize = 17;
-
-    // Octets of the buffer lent to a call at the most.
+    /// Octets of the buffer lent to a call at the most.
     pub const ROOM: usize = 65536;
 
-    // Slots, each of which holds a lookup.
+    /// Slots, each of which holds a lookup.
     pub const SLOTS: usize = 4;
-}
 
-fn kind_of(number: u16) -> Kind
-    ensures { result ≡ kind_of number }
-{
-    match number {
-        31 => Kind::Table,
-        32 => Kind::SetUp,
-        33 => Kind::Start,
-        34 => Kind::Datagram,
-        35 => Kind::Tick,
-        40 => Kind::Settings,
-        41 => Kind::Ask,
-        42 => Kind::Answer,
-        43 => Kind::AskTick,
-        54 => Kind::Name,
-        _ => Kind::Unknown,
-    }
-}
+    // Octets of a prefix, and of an address.
+    const PREFIX: usize = 15;
 
-fn is_unknown(kind: Kind) -> bool
-    ensures { result ≡ is_unknown kind }
-{
-    if let Kind::Unknown = kind {
-        true
-    } else {
-        false
-    }
-}
+    const ADDRESS: usize = 17;
 
-// Whether a body of so many octets is one of this kind.
-fn is_sized(kind: Kind, octets: usize) -> bool
-    ensures { result ≡ is_sized kind octets }
-{
-    match kind {
-        Kind::Table => true,
-        Kind::SetUp => octets == 91,
-        Kind::Start => octets == 16,
-        Kind::Datagram => 51 <= octets,
-        Kind::Tick => octets == 15,
-        Kind::Settings => octets == 76,
-        Kind::Ask => 19 <= octets,
-        Kind::Answer => 56 <= octets,
-        Kind::AskTick => octets == 16,
-        Kind::Name => 2 <= octets,
-        Kind::Unknown => false,
-    }
-}
-
-// Whether an entry of this kind may have this octet after its prefix: where it is the number of a slot, there is one.
-fn is_slot(kind: Kind, octet: u8) -> bool
-    ensures { result ≡ is_slot kind octet }
-{
-    match kind {
-        Kind::Ask => octet < 4,
-        Kind::Answer => octet < 4,
-        Kind::AskTick => octet < 4,
-        _ => true,
-    }
-}
-
-// Reads the entry at the start of what is left of a file.
-pub fn read(rest: &[u8]) -> EntryRead
-    ensures { result ≡ entry_at rest.now }
-{
-    if rest.len() < Entry::HEAD {
-        return EntryRead::Bad(Why::Cut);
-    }
-    let len = octets::little(rest, 0) as usize;
-    if rest.len() < len {
-        return EntryRead::Bad(Why::Cut);
-    }
-    if len < Entry::HEAD {
-        return EntryRead::Bad(Why::Short);
-    }
-    let kind = kind_of(octets::little(rest, 2));
-    if is_unknown(kind) {
-        return EntryRead::Bad(Why::Kind);
-    }
-    if !is_sized(kind, len - Entry::HEAD) {
-        return EntryRead::Bad(Why::Size);
-    }
-    if is_slot(kind, octets::octet(rest, Entry::HEAD + Entry::PREFIX)) {
-        return EntryRead::Whole(Entry { kind, len });
-    }
-    EntryRead::Bad(Why::Size)
-}
-
-// Whether an entry is about lookups.
-pub fn is_of_lookup(kind: Kind) -> bool
-    ensures { result ≡ is_of_lookup kind }
-{
-    match kind {
-        Kind::Settings => true,
-        Kind::Ask => true,
-        Kind::Answer => true,
-        Kind::AskTick => true,
-        _ => false,
-    }
-}
-
-// The table that is lent after an entry: the entry's body, or the table before it.
-pub fn lent<'a>(kind: Kind, table: &'a [u8], body: &'a [u8]) -> &'a [u8]
-    ensures { result.now ≡ lent_by kind table.now body.now }
-{
-    match kind {
-        Kind::Table => body,
-        _ => table,
+    /// Reads the entry at the start of what is left of a file.
+    ///
+    /// # Errors
+    ///
+    /// Why no entry stands there.
+    #[tactic(auto, unfolding(crate::specs::Entries::entry_at, crate::specs::Entries::sized_entry))]
+    pub fn read(rest: &[u8]) -> Result<Entry, Why>
+        ensures value { result ≡ entry_at rest.now }
+        ensures head { IfOk result (λ e. Entry.HEAD ≤ e.len) }
+        ensures end { IfOk result (λ e. e.len ≤ length rest.now) }
+    {
+        let [low, high, kind_low, kind_high, ..] = rest else {
+            return Err(Why::Cut);
+        };
+        let len = usize::from(u16::from_le_bytes([*low, *high]));
+        if rest.len() < len {
+            return Err(Why::Cut);
+        }
+        if len < Entry::HEAD {
+            return Err(Why::Short);
+        }
+        let kind = Kind::try_from(u16::from_le_bytes([*kind_low, *kind_high]))?;
+        let slot = octets::octet(rest, Entry::HEAD + Entry::PREFIX);
+        if kind.is_sized(len - Entry::HEAD) && kind.is_slot(slot) {
+            Ok(Entry { kind, len })
+        } else {
+            Err(Why::Size)
+        }
     }
 }
 
 // The number of four octets at an offset.
-fn little32(s: &[u8], at: u32) -> u32
+// Octet by octet, as little64: no trait has `from_le_bytes`, so a const parameter is no plainer.
+fn little32(s: &[u8], at: u16) -> u32
     ensures { result ≡ little32_at s.now at }
 {
-    let a = at as usize;
-    (octets::little(s, a) as u32) + (octets::little(s, a + 2) as u32) * 65536
+    let at = usize::from(at);
+    u32::from_le_bytes([
+        octets::octet(s, at),
+        octets::octet(s, at + 1),
+        octets::octet(s, at + 2),
+        octets::octet(s, at + 3),
+    ])
 }
 
 // The number of eight octets at an offset.
 fn little64(s: &[u8], at: u16) -> u64
     ensures { result ≡ little64_at s.now at }
 {
-    let a = at as u32;
-    (little32(s, a) as u64) + (little32(s, a + 4) as u64) * 4294967296
+    let at = usize::from(at);
+    u64::from_le_bytes([
+        octets::octet(s, at),
+        octets::octet(s, at + 1),
+        octets::octet(s, at + 2),
+        octets::octet(s, at + 3),
+        octets::octet(s, at + 4),
+        octets::octet(s, at + 5),
+        octets::octet(s, at + 6),
+        octets::octet(s, at + 7),
+    ])
 }
 
-pub fn prefix_of(body: &[u8]) -> Prefix
-    ensures { result ≡ prefix_of body.now }
-{
-    Prefix {
-        interface: octets::octet(body, 0),
-        time: little64(body, 1),
-        id: octets::little(body, 9),
-        room: little32(body, 11),
+impl Prefix {
+    /// The prefix that a body begins with.
+    pub fn read(body: &[u8]) -> Prefix
+        ensures { result ≡ prefix_of body.now }
+    {
+        Prefix {
+            interface: octets::octet(body, 0),
+            time: little64(body, 1),
+            id: octets::little(body, 9),
+            room: little32(body, 11),
+        }
+    }
+
+    /// The octets lent to a call: as many as it asks for, or as there are.
+    pub fn room(&self) -> usize
+        ensures { result ≡ min self.now.room Entry.ROOM }
+    {
+        (self.room as usize).min(Entry::ROOM)
+    }
+
+    /// The time and the ID of a call.
+    pub fn moment(&self) -> Moment
+        ensures { result ≡ record { time = self.now.time; id = self.now.id } }
+    {
+        Moment {
+            time: self.time,
+            id: self.id,
+        }
     }
 }
 
-// The octets lent to a call that asks for so many, of a buffer that has so many.
-pub fn room(asked: u32, most: usize) -> usize
-    ensures { result ≡ min asked most }
-{
-    let n = asked as usize;
-    if n < most { n } else { most }
-}
-
-// The sixteen octets of an address.
-fn address_octets(s: &[u8]) -> [u8; Address::IPV6_OCTETS]
-    ensures { result ≡ address_octets s.now }
-{
-    let mut octets = [0u8; Address::IPV6_OCTETS];
-    octets::put_octets(&mut octets, 0, s);
-    octets
-}
-
-// The address at an offset of a body.
+// The address at an offset of a body. Octets that do not stand there whole count as zeros.
 fn address_at(body: &[u8], at: u16) -> Address
     ensures { result ≡ address_at body.now at }
 {
-    let a = at as usize;
-    let octets = address_octets(octets::part(body, a + 1, a + Entry::ADDRESS));
+    let at = usize::from(at);
+    let mut octets = [0; Address::IPV6_OCTETS];
+    octets::put_octets(
+        &mut octets,
+        0,
+        octets::part(body, at + 1, at + Entry::ADDRESS),
+    );
     Address {
-        family: octets::octet(body, a),
+        family: octets::octet(body, at),
         octets,
     }
 }
@@ -239,97 +279,84 @@ fn address_at(body: &[u8], at: u16) -> Address
 fn setting_at(body: &[u8], at: u16) -> Setting
     ensures { result ≡ setting_at body.now at }
 {
-    let a = at as usize;
-    let address = address_octets(octets::part(body, a + 1, a + Entry::ADDRESS));
+    let Address { family, octets } = address_at(body, at);
     Setting {
-        family: octets::octet(body, a),
-        address,
-        interval: octets::little(body, a + Entry::ADDRESS),
+        family,
+        address: octets,
+        interval: octets::little(body, usize::from(at) + Entry::ADDRESS),
     }
 }
 
-// What stands after the prefix of a set-up or a datagram: the settings, or where it comes from.
+/// What stands after the prefix of a set-up or a datagram: the settings, or where it comes from.
 pub fn after_prefix(body: &[u8]) -> &[u8]
     ensures { result.now ≡ part_of body.now 15 (length body.now) }
 {
     octets::part(body, Entry::PREFIX, body.len())
 }
 
-// What stands in a datagram to a lookup after the prefix, the slot, and the room of the cache, which is not read.
+/// What stands in a datagram to a lookup after the prefix, the slot, and the room of the cache,
+/// which is not read.
 pub fn after_slot(body: &[u8]) -> &[u8]
     ensures { result.now ≡ part_of body.now 20 (length body.now) }
 {
     octets::part(body, 20, body.len())
 }
 
-// The settings of the four interfaces.
+/// The settings of the four interfaces.
 pub fn settings(s: &[u8]) -> [Setting; Setting::COUNT]
     ensures { result ≡ settings_of s.now }
 {
-    let a = setting_at(s, 0);
-    let b = setting_at(s, 19);
-    let c = setting_at(s, 38);
-    let d = setting_at(s, 57);
-    [a, b, c, d]
+    [
+        setting_at(s, 0),
+        setting_at(s, 19),
+        setting_at(s, 38),
+        setting_at(s, 57),
+    ]
 }
 
-// The number of the name that a start names.
+/// The number of the name that a start names.
 pub fn started_name(body: &[u8]) -> usize
     ensures { result ≡ octet_at body.now 15 }
 {
-    octets::octet(body, Entry::PREFIX) as usize
+    usize::from(octets::octet(body, Entry::PREFIX))
 }
 
-// Where a datagram comes from.
-pub fn source(s: &[u8]) -> Endpoint
-    ensures { result ≡ source_of s.now }
+/// A datagram, with where it comes from and where it was sent.
+pub fn arrival(s: &[u8]) -> Arrival<'_>
+    ensures from { result.from ≡ source_of s.now }
+    ensures to { result.to ≡ address_at s.now 19 }
+    ensures datagram { result.datagram.now ≡ part_of s.now 36 (length s.now) }
 {
-    let address = address_at(s, 0);
-    Endpoint {
-        address,
-        port: octets::little(s, 17),
+    Arrival {
+        from: Endpoint {
+            address: address_at(s, 0),
+            port: octets::little(s, 17),
+        },
+        to: address_at(s, 19),
+        datagram: octets::part(s, 36, s.len()),
     }
 }
 
-// Where a datagram was sent.
-pub fn destination(s: &[u8]) -> Address
-    ensures { result ≡ address_at s.now 19 }
-{
-    address_at(s, 19)
-}
-
-pub fn datagram(s: &[u8]) -> &[u8]
-    ensures { result.now ≡ part_of s.now 36 (length s.now) }
-{
-    octets::part(s, 36, s.len())
-}
-
-// The slot that an entry names. A number that is none counts as 0, and no entry that was read has one.
+/// The slot that an entry names. A number that is none counts as 0, and no entry that was read has
+/// one.
+// No Option: `slot_of` of specs/Entries, which may not change, gives 0 too.
 pub fn slot(body: &[u8]) -> usize
     ensures value { result ≡ slot_of body.now }
     ensures upper_bound { result < slots }
 {
-    let k = octets::octet(body, Entry::PREFIX) as usize;
+    let k = usize::from(octets::octet(body, Entry::PREFIX));
     if k < Entry::SLOTS { k } else { 0 }
 }
 
-// Whether a lookup may ask for a name of several labels: the octet after the slot is not 0.
-pub fn permission(body: &[u8]) -> bool
-    ensures { result ≡ not (eqb (octet_at body.now 16) 0) }
+/// What is looked up. The name may have several labels if the octet after the slot is not 0.
+pub fn asked(body: &[u8]) -> Asked<'_>
+    ensures name { result.name.now ≡ part_of body.now 19 (length body.now) }
+    ensures qtype { result.qtype ≡ little_at body.now 17 }
+    ensures permission { result.permission ≡ not (eqb (octet_at body.now 16) 0) }
 {
-    octets::octet(body, 16) != 0
-}
-
-// The type that is looked up.
-pub fn asked_type(body: &[u8]) -> u16
-    ensures { result ≡ little_at body.now 17 }
-{
-    octets::little(body, 17)
-}
-
-// The octets of the name that is looked up.
-pub fn asked_name(body: &[u8]) -> &[u8]
-    ensures { result.now ≡ part_of body.now 19 (length body.now) }
-{
-    octets::part(body, 19, body.len())
+    Asked {
+        name: octets::part(body, 19, body.len()),
+        qtype: octets::little(body, 17),
+        permission: octets::octet(body, 16) != 0,
+    }
 }

@@ -1,333 +1,263 @@
-// Lines, written into a buffer: each function writes pieces from an offset on and gives the offset
-// after them. A piece that does not fit is left out whole.
-ghost use Rattle.std.specs.Prelude.{◌≡◌, ◌+◌, ◌*◌, ◌≤◌, ◌<◌, length, decimal};
-ghost use Rattle.std.specs.Char.{digit_char};
-ghost use Rattle.octets.specs.Octets.{splice, part_of, put as written};
-ghost use Rattle.host.specs.Outcomes.{result_of};
-ghost use Rattle.lookup.specs.Outcomes.{result_of as lookup_result_of};
-ghost use Rattle.run_calls.specs.Lines.{hex_of, after};
-ghost use Rattle.run_calls.specs.Pieces.{written_so, put_piece, put_pieces, field, entry_pieces};
-ghost use Rattle.run_calls.specs.Pieces.{prefix_pieces, refusal_pieces, to_pieces, sent_pieces};
-ghost use Rattle.run_calls.specs.Pieces.{named_pieces, outcome_pieces, answers_pieces};
-ghost use Rattle.run_calls.specs.Pieces.{asked_pieces, call_line, lookup_line, settings_line};
-ghost use Rattle.run_calls.specs.Pieces.{table_line, name_pieces, name_line, end_line};
+// Lines, put at the end of a text: each is what its entry gives, in the words and the order of
+// docs/CALL-FILES.md. Where there is no memory, the text may end in a part of a line.
+ghost use Rattle.std.specs.Prelude.{◌≡◌, ◌++◌, string_bytes, OnOk, IfOk, Err};
+ghost use Rattle.std.specs.List.{concat};
+ghost use Rattle.octets.specs.Octets.{part_of};
+ghost use Rattle.host.specs.Outcomes.{told, sent_to};
+ghost use Rattle.lookup.specs.Outcomes.{told as lookup_told, sent_to as lookup_sent_to};
+ghost use Rattle.names.specs.RecordNameWalk.{record_name_at, expanded_at};
+ghost use Rattle.run_calls.specs.Lines.{hex_of};
+ghost use Rattle.run_calls.specs.Pieces.{entry_pieces, prefix_pieces, refusal_pieces, sent_pieces};
+ghost use Rattle.run_calls.specs.Pieces.{outcome_pieces, asked_pieces, call_line, lookup_line};
+ghost use Rattle.run_calls.specs.Pieces.{ready_pieces, set_up_line, settings_line};
+ghost use Rattle.run_calls.specs.Pieces.{table_pieces, table_line, name_pieces, name_read_pieces};
+ghost use Rattle.run_calls.specs.Pieces.{name_line, end_line};
 
-use crate::entry::{EntryRead, Kind, Prefix, Why};
-use host::Outcome;
-use itoa::Buffer;
-use name_table::Table;
-use names::{Name, RecordName, RecordNameRead};
+use crate::entry::{Kind, Prefix, Why};
+use host::{Host, Outcome};
+use name_table::{BadTable, Table};
+use names::{Name, RecordName};
 use octets::Endpoint;
 use refusal::Refusal;
+use std::alloc::{AllocError, Global};
 
-pub fn put(text: &mut [u8], at: usize, octets: &[u8]) -> usize
-    ensures value { result ≡ after text.old at (length octets.now) }
-    ensures text_after { text.new ≡ written text.old at octets.now }
-    ensures piece { written_so text.new result ≡ put_piece (written_so text.old at) octets.now }
+// What the line of a call begins with.
+fn put_head(text: &mut String, n: usize, kind: Kind, prefix: Prefix) -> Result<(), AllocError>
+    ensures { OnOk result (string_bytes text.new ≡ string_bytes text.old
+        ++ concat (entry_pieces n kind ++ prefix_pieces prefix)) }
 {
-    if octets::runs_past(text.len(), at, octets.len()) {
-        return at;
-    }
-    octets::put_octets(text, at, octets);
-    at + octets.len()
+    let Prefix {
+        interface,
+        time,
+        id,
+        room: _,
+    } = prefix;
+    write!(text, "{n} {kind} if={interface} t={time} id={id}")
 }
 
-// A number in decimal.
-fn put_number(text: &mut [u8], at: usize, n: u64) -> usize
-    ensures { written_so text.new result ≡ put_piece (written_so text.old at) (decimal n) }
+fn put_refusal(text: &mut String, refusal: Refusal) -> Result<(), AllocError>
+    ensures { OnOk result (string_bytes text.new ≡ string_bytes text.old
+        ++ concat (refusal_pieces refusal)) }
 {
-    let mut digits = Buffer::new();
-    put(text, at, digits.format(n).as_bytes())
-}
-
-fn hex_digit(n: u8) -> u8
-    requires { n < 16 }
-    ensures { result ≡ digit_char n }
-{
-    if n < 10 { 48 + n } else { 87 + n }
-}
-
-// Writes two hexadecimal digits for each octet to the start of a buffer that has room.
-fn spell(d: &mut [u8], octets: &[u8])
-    requires { length octets.now * 2 ≤ length d.old }
-    ensures { d.new ≡ splice d.old 0 (hex_of octets.now) }
-{
-    let mut i = 0;
-    while i < octets.len() {
-        let c = octets[i];
-        d[i * 2] = hex_digit(c / 16);
-        d[i * 2 + 1] = hex_digit(c % 16);
-        i = i + 1;
+    let number = refusal.number();
+    match refusal {
+        Refusal::Table { at } => write!(text, " refused no={number} at={at}"),
+        _ => write!(text, " refused no={number}"),
     }
 }
 
 // Octets in hexadecimal.
-fn put_hex(text: &mut [u8], at: usize, octets: &[u8]) -> usize
-    ensures value { result ≡ after text.old at (length octets.now * 2) }
-    ensures text_after { text.new ≡ written text.old at (hex_of octets.now) }
-    ensures piece { written_so text.new result ≡ put_piece (written_so text.old at)
-        (hex_of octets.now) }
+fn hexadecimal(alloc: Global, octets: &[u8]) -> Result<String, AllocError>
+    ensures { IfOk result (λ text. string_bytes text ≡ hex_of octets.now) }
 {
-    if text.len() < at {
-        return at;
-    }
-    if (text.len() - at) / 2 < octets.len() {
-        return at;
-    }
-    spell(&mut text[at..], octets);
-    at + octets.len() * 2
-}
-
-// A field: its label with the space before it, and its number.
-fn put_field(text: &mut [u8], at: usize, label: &[u8], n: u64) -> usize
-    ensures { written_so text.new result ≡ put_pieces (written_so text.old at) (field label.now n) }
-{
-    let at = put(text, at, label);
-    put_number(text, at, n)
-}
-
-// The number and the kind of an entry.
-fn put_entry(text: &mut [u8], at: usize, n: u64, kind: Kind) -> usize
-    ensures { written_so text.new result ≡ put_pieces (written_so text.old at)
-        (entry_pieces n kind) }
-{
-    let at = put_number(text, at, n);
-    match kind {
-        Kind::Table => put(text, at, b" table"),
-        Kind::SetUp => put(text, at, b" set-up"),
-        Kind::Start => put(text, at, b" start"),
-        Kind::Datagram => put(text, at, b" datagram"),
-        Kind::Tick => put(text, at, b" tick"),
-        Kind::Settings => put(text, at, b" settings"),
-        Kind::Ask => put(text, at, b" ask"),
-        Kind::Answer => put(text, at, b" answer"),
-        Kind::AskTick => put(text, at, b" ask-tick"),
-        Kind::Name => put(text, at, b" name"),
-        Kind::Unknown => at,
-    }
-}
-
-fn put_prefix(text: &mut [u8], at: usize, p: Prefix) -> usize
-    ensures { written_so text.new result ≡ put_pieces (written_so text.old at) (prefix_pieces p) }
-{
-    let at = put_field(text, at, b" if=", p.interface as u64);
-    let at = put_field(text, at, b" t=", p.time);
-    put_field(text, at, b" id=", p.id as u64)
-}
-
-fn put_refusal(text: &mut [u8], at: usize, refusal: Refusal) -> usize
-    ensures { written_so text.new result ≡ put_pieces (written_so text.old at)
-        (refusal_pieces refusal) }
-{
-    let at = put_field(text, at, b" refused no=", refusal.number() as u64);
-    match refusal {
-        Refusal::Table { at: offset } => put_field(text, at, b" at=", offset as u64),
-        _ => at,
-    }
-}
-
-fn put_to(text: &mut [u8], at: usize, to: Endpoint) -> usize
-    ensures { written_so text.new result ≡ put_pieces (written_so text.old at) (to_pieces to) }
-{
-    let address = to.address;
-    let octets = address.octets;
-    let at = put_field(text, at, b" to=", address.family as u64);
-    let at = put(text, at, b"/");
-    let at = put_hex(text, at, &octets);
-    put_field(text, at, b"/", to.port as u64)
+    hex::encode(alloc, octets)
 }
 
 // What was sent: the octets that a call wrote, and where they go.
-fn put_sent(text: &mut [u8], at: usize, what: &[u8], to: Endpoint, sent: &[u8]) -> usize
-    ensures { written_so text.new result ≡ put_pieces (written_so text.old at)
-        (sent_pieces what.now to sent.now) }
+fn put_sent(text: &mut String, what: &str, to: Endpoint, sent: &[u8]) -> Result<(), AllocError>
+    ensures { OnOk result (string_bytes text.new ≡ string_bytes text.old
+        ++ concat (sent_pieces what.now to sent.now)) }
 {
-    let at = put(text, at, what);
-    let at = put_to(text, at, to);
-    let at = put_field(text, at, b" len=", sent.len() as u64);
-    let at = put(text, at, b" hex=");
-    put_hex(text, at, sent)
+    let alloc = *text.allocator();
+    let address = to.address;
+    let octets = hexadecimal(alloc, &address.octets)?;
+    let sent_octets = hexadecimal(alloc, sent)?;
+    let family = address.family;
+    let len = sent.len();
+    write!(
+        text,
+        "{what} to={family}/{octets}/{} len={len} hex={sent_octets}",
+        to.port
+    )
 }
 
-fn put_named(text: &mut [u8], at: usize, what: &[u8], name: usize) -> usize
-    ensures { written_so text.new result ≡ put_pieces (written_so text.old at)
-        (named_pieces what.now name) }
+// What a call of the host gives that was lent a buffer.
+fn put_outcome(
+    text: &mut String,
+    call: Result<Outcome, Refusal>,
+    out: &[u8],
+) -> Result<(), AllocError>
+    ensures { OnOk result (string_bytes text.new ≡ string_bytes text.old
+        ++ concat (outcome_pieces (told call) (sent_to call) out.now)) }
 {
-    let at = put(text, at, what);
-    put_field(text, at, b" name=", name as u64)
-}
-
-fn put_outcome(text: &mut [u8], at: usize, outcome: Outcome, to: Endpoint, out: &[u8]) -> usize
-    ensures { written_so text.new result ≡ put_pieces (written_so text.old at)
-        (outcome_pieces (result_of outcome) to out.now) }
-{
-    match outcome {
-        Outcome::Refused(refusal) => put_refusal(text, at, refusal),
-        Outcome::Ready => put(text, at, b" ready"),
-        Outcome::Quiet => put(text, at, b" quiet"),
-        Outcome::Kept { name } => put_named(text, at, b" kept", name),
-        Outcome::Query { name, len } => {
-            let at = put_sent(text, at, b" query", to, octets::part(out, 0, len));
-            put_field(text, at, b" name=", name as u64)
+    match call {
+        Ok(Outcome::Quiet) => write!(text, " quiet"),
+        Ok(Outcome::Kept { name }) => write!(text, " kept name={name}"),
+        Ok(Outcome::Query { name, len, to }) => {
+            put_sent(text, " query", to, octets::part(out, 0, len))?;
+            write!(text, " name={name}")
         }
-        Outcome::Reply { len } => put_sent(text, at, b" reply", to, octets::part(out, 0, len)),
-        Outcome::Unique { name } => put_named(text, at, b" unique", name),
-        Outcome::Shared { name } => put_named(text, at, b" shared", name),
-        Outcome::Stopped { name } => put_named(text, at, b" stopped", name),
+        Ok(Outcome::Reply { len, to }) => put_sent(text, " reply", to, octets::part(out, 0, len)),
+        Ok(Outcome::Unique { name }) => write!(text, " unique name={name}"),
+        Ok(Outcome::Shared { name }) => write!(text, " shared name={name}"),
+        Ok(Outcome::Stopped { name }) => write!(text, " stopped name={name}"),
+        Err(refusal) => put_refusal(text, refusal),
     }
 }
 
-// The line of a host's call.
-#[tactic(auto, using(crate::proofs::PieceLaws::pieces_append))]
+/// Puts the line of a host's call that was lent a buffer.
+// Head, middle and end, as in put_lookup and put_set_up: a closure for the middle is no plainer.
+#[tactic(auto, using(crate::proofs::LineLaws::joins))]
 pub fn put_call(
-    text: &mut [u8],
-    at: usize,
-    n: u64,
+    text: &mut String,
+    n: usize,
     kind: Kind,
-    p: Prefix,
-    outcome: Outcome,
-    to: Endpoint,
+    prefix: Prefix,
+    call: Result<Outcome, Refusal>,
     out: &[u8],
-) -> usize
-    ensures { written_so text.new result ≡ put_pieces (written_so text.old at)
-        (call_line n kind p (result_of outcome) to out.now) }
+) -> Result<(), AllocError>
+    ensures { OnOk result (string_bytes text.new ≡ string_bytes text.old
+        ++ concat (call_line n kind prefix (told call) (sent_to call) out.now)) }
 {
-    let at = put_entry(text, at, n, kind);
-    let at = put_prefix(text, at, p);
-    let at = put_outcome(text, at, outcome, to, out);
-    put(text, at, b"\n")
+    put_head(text, n, kind, prefix)?;
+    put_outcome(text, call, out)?;
+    text.push('\n')
 }
 
-// A response: where its answers begin, and how many there are.
-fn put_answers(text: &mut [u8], at: usize, what: &[u8], offset: usize, answers: u16) -> usize
-    ensures { written_so text.new result ≡ put_pieces (written_so text.old at)
-        (answers_pieces what.now offset answers) }
-{
-    let at = put(text, at, what);
-    let at = put_field(text, at, b" at=", offset as u64);
-    put_field(text, at, b" an=", answers as u64)
-}
-
+// What a call of a lookup gives.
 fn put_asked(
-    text: &mut [u8],
-    at: usize,
-    outcome: lookup::Outcome,
-    to: Endpoint,
+    text: &mut String,
+    call: Result<lookup::Outcome, Refusal>,
     out: &[u8],
-) -> usize
-    ensures { written_so text.new result ≡ put_pieces (written_so text.old at)
-        (asked_pieces (lookup_result_of outcome) to out.now) }
+) -> Result<(), AllocError>
+    ensures { OnOk result (string_bytes text.new ≡ string_bytes text.old
+        ++ concat (asked_pieces (lookup_told call) (lookup_sent_to call) out.now)) }
 {
-    match outcome {
-        lookup::Outcome::Refused(refusal) => put_refusal(text, at, refusal),
-        lookup::Outcome::Quiet => put(text, at, b" quiet"),
-        lookup::Outcome::Query { len } => put_sent(
-            text,
-            at,
-            b" query",
-            to,
-            octets::part(out, 0, len),
-        ),
-        lookup::Outcome::Part {
-            at: offset,
-            answers,
-        } => put_answers(text, at, b" part", offset, answers),
-        lookup::Outcome::Found {
-            at: offset,
-            answers,
-        } => put_answers(text, at, b" found", offset, answers),
-        lookup::Outcome::Collected => put(text, at, b" found"),
-        lookup::Outcome::NoSuchName => put(text, at, b" none"),
+    match call {
+        Ok(lookup::Outcome::Quiet) => write!(text, " quiet"),
+        Ok(lookup::Outcome::Query { len, to }) => {
+            put_sent(text, " query", to, octets::part(out, 0, len))
+        }
+        Ok(lookup::Outcome::Part { at, answers }) => write!(text, " part at={at} an={answers}"),
+        Ok(lookup::Outcome::Found { at, answers }) => write!(text, " found at={at} an={answers}"),
+        Ok(lookup::Outcome::Collected) => write!(text, " found"),
+        Ok(lookup::Outcome::NoSuchName) => write!(text, " none"),
+        Err(refusal) => put_refusal(text, refusal),
     }
 }
 
-// The line of a lookup's call.
-#[tactic(auto, using(crate::proofs::PieceLaws::pieces_append))]
+/// Puts the line of a lookup's call.
+#[tactic(auto, using(crate::proofs::LineLaws::joins))]
 pub fn put_lookup(
-    text: &mut [u8],
-    at: usize,
-    n: u64,
+    text: &mut String,
+    n: usize,
     kind: Kind,
-    p: Prefix,
-    outcome: lookup::Outcome,
-    to: Endpoint,
+    prefix: Prefix,
+    call: Result<lookup::Outcome, Refusal>,
     out: &[u8],
-) -> usize
-    ensures { written_so text.new result ≡ put_pieces (written_so text.old at)
-        (lookup_line n kind p (lookup_result_of outcome) to out.now) }
+) -> Result<(), AllocError>
+    ensures { OnOk result (string_bytes text.new ≡ string_bytes text.old
+        ++ concat (lookup_line n kind prefix (lookup_told call) (lookup_sent_to call) out.now)) }
 {
-    let at = put_entry(text, at, n, kind);
-    let at = put_prefix(text, at, p);
-    let at = put_asked(text, at, outcome, to, out);
-    put(text, at, b"\n")
+    put_head(text, n, kind, prefix)?;
+    put_asked(text, call, out)?;
+    text.push('\n')
 }
 
-// The line of settings for lookups.
-pub fn put_settings(text: &mut [u8], at: usize, n: u64) -> usize
-    ensures { written_so text.new result ≡ put_pieces (written_so text.old at) (settings_line n) }
+// What a set-up gives.
+fn put_ready(text: &mut String, call: &Result<Host, Refusal>) -> Result<(), AllocError>
+    ensures { OnOk result (string_bytes text.new ≡ string_bytes text.old
+        ++ concat (ready_pieces call.now)) }
 {
-    let at = put_entry(text, at, n, Kind::Settings);
-    put(text, at, b"\n")
-}
-
-// The line of a table.
-pub fn put_table(text: &mut [u8], at: usize, n: u64, table: &[u8]) -> usize
-    ensures { written_so text.new result ≡ put_pieces (written_so text.old at)
-        (table_line n table.now) }
-{
-    let at = put_entry(text, at, n, Kind::Table);
-    let read = Table::read(table);
-    if read.good {
-        let t = read.table;
-        let at = put_field(text, at, b" good names=", t.names as u64);
-        return put(text, at, b"\n");
+    match call {
+        Ok(_) => write!(text, " ready"),
+        Err(refusal) => put_refusal(text, *refusal),
     }
-    let at = put_refusal(text, at, Refusal::Table { at: read.at });
-    put(text, at, b"\n")
 }
 
-fn put_read(text: &mut [u8], at: usize, r: RecordName, name: &[u8]) -> usize
-    ensures { written_so text.new result ≡ put_pieces (written_so text.old at)
-        (name_pieces r (part_of name.now 0 r.len)) }
+/// Puts the line of a set-up.
+#[tactic(auto, using(crate::proofs::LineLaws::joins))]
+pub fn put_set_up(
+    text: &mut String,
+    n: usize,
+    prefix: Prefix,
+    call: &Result<Host, Refusal>,
+) -> Result<(), AllocError>
+    ensures { OnOk result (string_bytes text.new ≡ string_bytes text.old
+        ++ concat (set_up_line n prefix call.now)) }
 {
-    let at = put_field(text, at, b" next=", r.next as u64);
-    let at = put_field(text, at, b" pointers=", r.pointers as u64);
-    let at = put_field(text, at, b" labels=", r.labels as u64);
-    let at = put(text, at, b" name=");
-    let len = r.len;
-    put_hex(text, at, octets::part(name, 0, len))
+    put_head(text, n, Kind::SetUp, prefix)?;
+    put_ready(text, call)?;
+    text.push('\n')
 }
 
-// The line of a name in a record: the body has its offset, then the message.
-pub fn put_name(text: &mut [u8], at: usize, n: u64, body: &[u8]) -> usize
-    ensures { written_so text.new result ≡ put_pieces (written_so text.old at)
-        (name_line n body.now) }
+/// Puts the line of settings for lookups.
+pub fn put_settings(text: &mut String, n: usize) -> Result<(), AllocError>
+    ensures { OnOk result (string_bytes text.new ≡ string_bytes text.old
+        ++ concat (settings_line n)) }
 {
-    let at = put_entry(text, at, n, Kind::Name);
+    writeln!(text, "{n} {}", Kind::Settings)
+}
+
+// What reading a table gives.
+fn put_table_read(text: &mut String, read: Result<Table, BadTable>) -> Result<(), AllocError>
+    ensures { OnOk result (string_bytes text.new ≡ string_bytes text.old
+        ++ concat (table_pieces read)) }
+{
+    match read {
+        Ok(table) => write!(text, " good names={}", table.len()),
+        Err(bad) => put_refusal(text, Refusal::from(bad)),
+    }
+}
+
+/// Puts the line of a table.
+#[tactic(auto, using(crate::proofs::LineLaws::joins))]
+pub fn put_table(text: &mut String, n: usize, table: &[u8]) -> Result<(), AllocError>
+    ensures { OnOk result (string_bytes text.new ≡ string_bytes text.old
+        ++ concat (table_line n table.now)) }
+{
+    write!(text, "{n} {}", Kind::Table)?;
+    put_table_read(text, Table::read(table))?;
+    text.push('\n')
+}
+
+// The name of a record, as read and with its octets as expanded.
+fn put_name_read(text: &mut String, read: RecordName, expanded: &[u8]) -> Result<(), AllocError>
+    ensures { OnOk result (string_bytes text.new ≡ string_bytes text.old
+        ++ concat (name_pieces read expanded.now)) }
+{
+    let octets = hexadecimal(*text.allocator(), expanded)?;
+    let RecordName {
+        next,
+        pointers,
+        labels,
+        len: _,
+    } = read;
+    write!(
+        text,
+        " next={next} pointers={pointers} labels={labels} name={octets}"
+    )
+}
+
+// The name of a record that begins at an offset of a message, if one can be read there.
+fn put_expanded(text: &mut String, message: &[u8], at: usize) -> Result<(), AllocError>
+    ensures { OnOk result (string_bytes text.new ≡ string_bytes text.old
+        ++ concat (name_read_pieces (record_name_at message.now at) (expanded_at message.now at))) }
+{
+    // An array: the room for the longest name, which is known, so a Vec is no plainer.
+    let mut name = [0; Name::LONGEST];
+    let Some(read) = names::expand_name(message, at, &mut name) else {
+        return writeln!(text, " bad");
+    };
+    put_name_read(text, read, octets::part(&name, 0, read.len))?;
+    text.push('\n')
+}
+
+/// Puts the line of a name in a record: the body has its offset, then the message.
+#[tactic(auto, using(crate::proofs::LineLaws::joins))]
+pub fn put_name(text: &mut String, n: usize, body: &[u8]) -> Result<(), AllocError>
+    ensures { OnOk result (string_bytes text.new ≡ string_bytes text.old
+        ++ concat (name_line n body.now)) }
+{
+    write!(text, "{n} {}", Kind::Name)?;
     let message = octets::part(body, 2, body.len());
-    let mut name = [0u8; Name::LONGEST];
-    let read = names::expand_name(message, octets::little(body, 0) as usize, &mut name);
-    let RecordNameRead::Good(r) = read else {
-        return put(text, at, b" bad\n");
-    };
-    let at = put_read(text, at, r, &name);
-    put(text, at, b"\n")
+    put_expanded(text, message, usize::from(octets::little(body, 0)))
 }
 
-// The line of a run that ends before its file does.
-pub fn put_end(text: &mut [u8], at: usize, offset: usize, read: EntryRead) -> usize
-    ensures { written_so text.new result ≡ put_pieces (written_so text.old at)
-        (end_line offset read) }
+/// Puts the line of a run that ends, at an offset, before its file does.
+pub fn put_end(text: &mut String, at: usize, why: Why) -> Result<(), AllocError>
+    ensures { OnOk result (string_bytes text.new ≡ string_bytes text.old
+        ++ concat (end_line at (Err why))) }
 {
-    let EntryRead::Bad(why) = read else {
-        return at;
-    };
-    let at = put_field(text, at, b"end at=", offset as u64);
-    match why {
-        Why::Cut => put(text, at, b" why=cut\n"),
-        Why::Short => put(text, at, b" why=short\n"),
-        Why::Kind => put(text, at, b" why=kind\n"),
-        Why::Size => put(text, at, b" why=size\n"),
-        Why::Long => put(text, at, b" why=long\n"),
-    }
+    writeln!(text, "end at={at} why={why}")
 }

@@ -1,153 +1,116 @@
 // The lookups of a run: one in each slot, and the settings that the next one is started with.
-ghost use Rattle.std.specs.Prelude.{◌≡◌, length};
-ghost use Rattle.lookup.specs.Outcomes.{done_by};
+ghost use Rattle.std.specs.Prelude.{◌≡◌, ◌++◌, string_bytes, OnOk};
+ghost use Rattle.std.specs.List.{concat};
+ghost use Rattle.lookup.specs.Outcomes.{done_after};
+ghost use Rattle.run_calls.specs.Lookups.{fresh_lookups, call_of, served, after_call, done_line};
+ghost use Rattle.run_calls.specs.Lookups.{taken, taken_line};
 ghost use Rattle.run_calls.specs.Entries.{slot_of};
-ghost use Rattle.run_calls.specs.Lookups.{fresh_lookups, with_settings, after_entry, call_of};
-ghost use Rattle.run_calls.specs.Lookups.{served, after_call, done_line, taken, taken_line};
-ghost use Rattle.run_calls.specs.Pieces.{written_so, put_pieces};
 
-use crate::entry::{Entry, Kind};
+use crate::entry::{Entry, Kind, Prefix};
 use crate::{entry, line};
 use host::{Host, Interface};
-use lookup::{Lookup, Step};
+use lookup::{Lookup, Outcome};
 use octets::Setting;
+use refusal::Refusal;
+use std::alloc::AllocError;
 
-#[derive(Clone, Copy)]
+/// The settings, and the lookup of each slot.
+#[derive(Drop)]
 pub struct Lookups {
     pub settings: [Setting; Setting::COUNT],
     pub slots: [Lookup; Entry::SLOTS],
 }
 
-// What an entry about lookups gives: the next lookups, and the octets of lines after it.
-#[derive(Clone, Copy)]
-pub struct Asked {
-    pub lookups: Lookups,
-    pub used: usize,
-}
-
-impl Lookups {
-    // Before the first entry: each slot has what a refused start gives, and the settings are the host's.
-    pub fn fresh(host: Host) -> Self
-        ensures { result ≡ fresh_lookups host }
-    {
-        let interfaces = host.interfaces;
-        let settings = Interface::settings(interfaces);
-        let ended = Lookup::ended();
-        Lookups {
-            settings: settings,
-            slots: [ended; Entry::SLOTS],
-        }
-    }
-
-    // The lookups are the same, and the next one is started with other settings.
-    pub fn with_settings(self, settings: [Setting; Setting::COUNT]) -> Self
-        ensures { result ≡ with_settings self settings }
-    {
-        let slots = self.slots;
-        Lookups {
-            settings: settings,
-            slots: slots,
-        }
-    }
-
-    // After an entry of the host: a set-up takes the settings back to the host's.
-    pub fn after(self, kind: Kind, host: Host) -> Self
-        ensures { result ≡ after_entry kind self host }
-    {
-        match kind {
-            Kind::SetUp => {
-                let interfaces = host.interfaces;
-                self.with_settings(Interface::settings(interfaces))
-            }
-            _ => self,
-        }
-    }
-}
-
-// Makes the call of an entry, with the lookup of its slot.
+// Makes the call of an entry, with a lookup that starts with some settings.
+// A match, and no table of functions: each call takes other arguments, so a table is no plainer.
 fn call(
     kind: Kind,
     settings: [Setting; Setting::COUNT],
-    lookup: Lookup,
+    lookup: &mut Lookup,
     body: &[u8],
     out: &mut [u8],
-) -> Step
-    ensures { done_by result out.new ≡ call_of kind settings lookup body.now out.old }
+) -> Result<Outcome, Refusal>
+    ensures { done_after lookup.new result out.new
+        ≡ call_of kind settings lookup.old body.now out.old }
 {
-    let p = entry::prefix_of(body);
+    let prefix = Prefix::read(body);
+    let moment = prefix.moment();
     match kind {
         Kind::Ask => {
-            let interface = p.interface as usize;
-            let name = entry::asked_name(body);
-            let qtype = entry::asked_type(body);
-            let permission = entry::permission(body);
-            querier::start(
-                settings, interface, name, qtype, permission, p.time, p.id, out,
-            )
+            let interface = usize::from(prefix.interface);
+            match querier::start(settings, interface, entry::asked(body), moment, out) {
+                Ok(first) => {
+                    *lookup = first.lookup;
+                    Ok(Outcome::Query {
+                        len: first.len,
+                        to: first.to,
+                    })
+                }
+                Err(refusal) => {
+                    *lookup = Lookup::ended();
+                    Err(refusal)
+                }
+            }
         }
         Kind::Answer => {
-            let arrival = entry::after_slot(body);
-            let from = entry::source(arrival);
-            let to = entry::destination(arrival);
-            let datagram = entry::datagram(arrival);
-            querier::receive(lookup, from, to, datagram, p.time, p.id, out)
+            querier::receive(lookup, entry::arrival(entry::after_slot(body)), moment, out)
         }
-        _ => querier::tick(lookup, p.time, p.id, out),
+        _ => querier::tick(lookup, moment, out),
     }
 }
 
-// Makes the call of an entry in a buffer of the room that it asks for, and writes its line.
-fn serve(
-    kind: Kind,
-    mut lookups: Lookups,
-    body: &[u8],
-    n: u64,
-    out: &mut [u8],
-    text: &mut [u8],
-    used: usize,
-) -> Asked
-    ensures lookups_after { let d = served kind lookups body.now (length out.old) in
-        result.lookups ≡ after_call lookups (slot_of body.now) d }
-    ensures text_after { let d = served kind lookups body.now (length out.old) in
-        written_so text.new result.used ≡ put_pieces (written_so text.old used)
-        (done_line n kind body.now d) }
-{
-    let p = entry::prefix_of(body);
-    let room = entry::room(p.room, out.len());
-    let lent = &mut out[..room];
-    crate::fill(lent);
-    let slot = entry::slot(body);
-    let lookup = lookups.slots[slot];
-    let settings = lookups.settings;
-    let step = call(kind, settings, lookup, body, lent);
-    let outcome = step.outcome;
-    let to = step.to;
-    let used = line::put_lookup(text, used, n, kind, p, outcome, to, lent);
-    let next = step.lookup;
-    lookups.slots[slot] = next;
-    Asked { lookups, used }
-}
-
-// Takes an entry about lookups: the settings of the next ones, or a call.
-pub fn take(
-    kind: Kind,
-    lookups: Lookups,
-    body: &[u8],
-    n: u64,
-    out: &mut [u8],
-    text: &mut [u8],
-    used: usize,
-) -> Asked
-    ensures lookups_after { result.lookups ≡ taken kind lookups body.now (length out.old) }
-    ensures text_after { written_so text.new result.used ≡ put_pieces (written_so text.old used)
-        (taken_line n kind lookups body.now (length out.old)) }
-{
-    match kind {
-        Kind::Settings => {
-            let lookups = lookups.with_settings(entry::settings(body));
-            let used = line::put_settings(text, used, n);
-            Asked { lookups, used }
+impl Lookups {
+    /// Before the first entry: each slot has what a refused start gives, and the settings are the
+    /// host's.
+    pub fn fresh(host: &Host) -> Self
+        ensures { result ≡ fresh_lookups host.now }
+    {
+        Lookups {
+            settings: Interface::settings(&host.interfaces),
+            slots: [Lookup::ended(); Entry::SLOTS],
         }
-        _ => serve(kind, lookups, body, n, out, text, used),
+    }
+
+    // Makes the call of an entry in a buffer of the room that it asks for, and puts its line.
+    // As that of State, with a lookup for the host: a trait over the two is no plainer.
+    fn serve(
+        &mut self,
+        kind: Kind,
+        body: &[u8],
+        n: usize,
+        text: &mut String,
+    ) -> Result<(), AllocError>
+        ensures lookups_after { let d = served kind self.old body.now Entry.ROOM in
+            OnOk result (self.new ≡ after_call self.old (slot_of body.now) d) }
+        ensures text_after { let d = served kind self.old body.now Entry.ROOM in
+            OnOk result (string_bytes text.new ≡ string_bytes text.old
+            ++ concat (done_line n kind body.now d)) }
+    {
+        let prefix = Prefix::read(body);
+        let mut out = vec![in *text.allocator(); 0xA5; prefix.room()]?;
+        let slot = entry::slot(body);
+        let called = call(kind, self.settings, &mut self.slots[slot], body, &mut out);
+        line::put_lookup(text, n, kind, prefix, called, &out)
+    }
+
+    /// Takes an entry about lookups: the settings of the next ones, or a call.
+    pub fn take(
+        &mut self,
+        kind: Kind,
+        body: &[u8],
+        n: usize,
+        text: &mut String,
+    ) -> Result<(), AllocError>
+        ensures lookups_after { OnOk result (self.new ≡ taken kind self.old body.now Entry.ROOM) }
+        ensures text_after { OnOk result (string_bytes text.new ≡ string_bytes text.old
+            ++ concat (taken_line n kind self.old body.now Entry.ROOM)) }
+    {
+        match kind {
+            Kind::Settings => {
+                self.settings = entry::settings(body);
+                line::put_settings(text, n)
+            }
+            _ => self.serve(kind, body, n, text),
+        }
     }
 }

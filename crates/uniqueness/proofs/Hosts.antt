@@ -1,14 +1,9 @@
 -- The delivered calls as a system of file Simulation: what a call sends, which of a host's states stands for which claim, which octets are a
 -- query or a reply. The files below show, from the obligations alone, that it simulates the model.
-use mathlib.Core.Path.{◌≡◌, refl, sym, ◌∙◌, ap, subst}
-use mathlib.Core.Logic.{dite}
-use mathlib.Core.Bool.{Bool, false, not}
-use mathlib.Core.List.{List, map}
-use Prim.Native.Nat.{ℕ, zero, suc, ◌≤◌, ◌<◌}
-use native.Mathlib.Decide.{ℕ_discrete}
-use native.Mathlib.Omega.{arith}
-use lib.ListN.{get_or, take, length, length-map, replicate, length-replicate}
-use lib.Seq.{get_or-set_same}
+use Rattle.std.proofs.Common.{◌≡◌, refl, sym, ◌∙◌, ap, subst, Bool, false, not, List, map, ℕ, zero, suc, ◌≤◌, ◌<◌, arith, get_or, take, length, replicate, get_or-set_same}
+use Rattle.std.proofs.lemmas.List.{length-map, length-replicate}
+use Rattle.std.proofs.Math.Logic.{dite}
+use Rattle.std.proofs.Math.Decide.{ℕ_discrete}
 use Rattle.octets.specs.Bounds.{used_by6}
 use Rattle.octets.specs.Octets.{Octets}
 use Rattle.octets.specs.declared.Endpoint.{Endpoint}
@@ -20,7 +15,6 @@ use Rattle.host.specs.Bounds.{room as room_octets, latest as latest_time}
 use Rattle.host.specs.declared.NameState.{NameState}
 use Rattle.host.specs.declared.NameState.TheVariants.{Off, Verifying, Defending}
 use Rattle.host.specs.declared.NameState.TheVariants.{Unique as IsUnique, Stopped as HasStopped}
-use Rattle.host.specs.declared.Name.{Name}
 use Rattle.host.specs.declared.Interface.{Interface}
 use Rattle.host.specs.declared.Host.{Host}
 use Rattle.host.specs.Outcomes.{Done, CallResult, refused as Refused, ready as Ready, quiet as Quiet, kept as Kept, query as Query, reply as Reply, unique as Unique, shared as Shared, stopped as Stopped}
@@ -100,7 +94,7 @@ some_receipt = record { port = 0; port_fits = omega arith; lent = some_lent }
 
 -- the state of station s's name in a host
 name_state : Station → Host → NameState
-name_state s h = (get_or (get_or h.interfaces s.interface (in_use s Off)).names s.name off_name).state
+name_state s h = (get_or (get_or h.interfaces s.interface (in_use s Off)).names s.name off_name)
 
 name_in : (s : Station) (x : NameState) (t : ℕ) → s.interface < length s.settings → s.name < most_names → name_state s (host_with s x t) ≡ x
 unfolding name_state host_with
@@ -109,8 +103,8 @@ name_in s x t li ln =
     (sym (length-map s.settings unstarted)) li in
     let ln' : s.name < length (replicate most_names off_name) = ln in
     let a = get_or-set_same (map unstarted s.settings) s.interface (in_use s x) (in_use s Off) li' in
-    let b = get_or-set_same (replicate most_names off_name) s.name (record { state = x }) off_name ln' in
-    ap (λ (i : Interface). (get_or i.names s.name off_name).state) a ∙ ap (λ (n : Name). n.state) b
+    let b = get_or-set_same (replicate most_names off_name) s.name x off_name ln' in
+    ap (λ (i : Interface). (get_or i.names s.name off_name)) a ∙ b
 
 -- the ID of a host's own query
 abbrev pub id_of : NameState → ℕ

@@ -1,12 +1,7 @@
 -- What the theorem needs of the calls' definitions, as facts about explicit hosts. The claim follows from them (Theorem/Attained); that they
 -- hold, from the laws of the crate host alone, is shown in the files below: Met collects them.
 -- Every state here is one that a host of the link can have: set up, all names Off but the one, and that one in a given state.
-use Prim.Native.Nat.{ℕ, suc, ◌+◌, ◌%◌, ◌≤◌, ◌<◌}
-use mathlib.Core.Path.{◌≡◌, refl, ap}
-use mathlib.Core.Logic.{◌≢◌}
-use mathlib.Core.Bool.{Bool, true, false, cond}
-use mathlib.Core.List.{List, map}
-use lib.ListN.{get_or, set, take, length, replicate}
+use Rattle.std.proofs.Common.{ℕ, suc, ◌+◌, ◌%◌, ◌≤◌, ◌<◌, ◌≡◌, refl, ap, ◌≢◌, Bool, true, false, cond, List, map, get_or, set, take, length, replicate}
 use Rattle.name_table.specs.Bounds.{most_names}
 use Rattle.host.specs.Bounds.{latest as latest_time, sends_in_all}
 use Rattle.octets.specs.Bounds.{used_by6, llmnr_port}
@@ -48,7 +43,7 @@ abbrev pub unstarted : Setting → Interface
 unstarted s = record { setting = s; names = replicate most_names off_name }
 
 abbrev pub in_use : Station → NameState → Interface
-in_use s x = record { setting = setting_of s s.interface; names = set (replicate most_names off_name) s.name (record { state = x }) }
+in_use s x = record { setting = setting_of s s.interface; names = set (replicate most_names off_name) s.name x }
 
 unfoldable pub host_with : Station → NameState → ℕ → Host
 host_with s x t = record { interfaces = set (map unstarted s.settings) s.interface (in_use s x); clock = t }

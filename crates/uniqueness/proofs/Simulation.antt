@@ -1,12 +1,9 @@
 -- Any hosts whose calls behave like the model's: what their calls are and what lists of them are, and what is to be shown of the calls
 -- (Simulates). From that the files below carry deliveries, steps and lists over to the model and back, so that the model's facts hold
 -- of the hosts.
-use mathlib.Core.Path.{◌≡◌}
-use mathlib.Core.Logic.{◌≢◌}
-use mathlib.Core.Bool.{Bool, true, false}
-use mathlib.Core.List.{List, [], ◌∷◌, ◌++◌, map, Memᴰ}
-use Prim.Native.Nat.{ℕ, zero, suc, ◌+◌, ◌≤◌, ◌<◌}
-use native.Mathlib.Decide.{ℕ_discrete}
+use Rattle.std.proofs.Common.{◌≡◌, ◌≢◌, Bool, true, false, List, [], ◌∷◌, ◌++◌, map, ℕ, zero, suc, ◌+◌, ◌≤◌, ◌<◌}
+use mathlib.Core.List.{Memᴰ}
+use Rattle.std.proofs.Math.Decide.{ℕ_discrete}
 use Rattle.host.specs.Bounds.{sends_in_all}
 use Rattle.uniqueness.proofs.Model.{Claim, off, verifying, unique, stopped, LinkModel, after_reply, Put, unless, Event, start, tick, time, host}
 pub mod Pairwise

@@ -1,10 +1,6 @@
 -- What a call comes to in the words of specs/States.antt, from what the definitions give.
-use Prim.Native.Nat.{ℕ, ◌-◌, ◌<◌, ◌≤◌}
-use mathlib.Core.Path.{◌≡◌, refl, sym, ap, ◌∙◌, subst}
-use mathlib.Core.List.{List, [], ◌∷◌, append_assoc}
-use native.Mathlib.Omega.{arith}
-use lib.ListN.{length, get_or, set, take, drop, length-set}
-use lib.Seq.{get_or-set_other, map-set_same}
+use Rattle.std.proofs.Common.{Some, ℕ, ◌-◌, ◌<◌, ◌≤◌, ◌≡◌, refl, sym, ap, ◌∙◌, subst, List, [], ◌∷◌, append_assoc, arith, length, get_or, set, take, drop, length-set, get_or-set_other}
+use Rattle.std.proofs.Math.Seq.{map-set_same}
 use Rattle.octets.specs.Octets.{Octets}
 use Rattle.octets.specs.declared.Endpoint.{Endpoint}
 use Rattle.octets.proofs.Octets.{part_in, length_part}
@@ -14,7 +10,6 @@ use Rattle.refusal.specs.Numbers.{number}
 use Rattle.name_table.specs.Check.{Held, no_name, names_in, name_in}
 use Rattle.name_table.proofs.Held.{held_name}
 use Rattle.message.specs.declared.Question.{Question}
-use Rattle.message.specs.declared.QuestionRead.TheVariants.{Good}
 use Rattle.message.specs.Question.{question_at}
 use Rattle.message.specs.Query.{query_octets, query_with}
 use Rattle.message.proofs.Questions.{reads_a_question}
@@ -37,7 +32,7 @@ check_is : (id : ℕ) (name : List ℕ) → check_query id name ≡ check_of id 
 check_is id name = ap (query_octets id 0) (append_assoc name (0 ∷ 255 ∷ []) (0 ∷ 1 ∷ [])) ∙ query_plain id _
 
 -- the question as received
-pub question_out : (a : Arrival) (q : Question) → Octets a.datagram → question_at a.datagram 12 ≡ Good q
+pub question_out : (a : Arrival) (q : Question) → Octets a.datagram → question_at a.datagram 12 ≡ Some q
     → (query_octets a.id 0 (question_in a q) ≡ query_with a.id (take (q.end - 12) (drop 12 a.datagram)))
     × (length (query_octets a.id 0 (question_in a q)) ≤ 512)
 question_out a q o e =
@@ -59,7 +54,7 @@ leaves h time out r d e = subst (Leaves h time out r) (sym e) (record { result =
 
 module _ (h : Host) (i k : ℕ) (p : Place h i k) (s : NameState) (time : ℕ) where
   abbrev changed : Interface
-  changed = record { setting = setting_of h i; names = set (interface_of h i).names k (record { state = s }) }
+  changed = record { setting = setting_of h i; names = set (interface_of h i).names k s }
 
   here : interface_of (with_state h i k s time) i ≡ changed
   here = changed_here h i k p.interface p.name s time
@@ -78,9 +73,9 @@ module _ (h : Host) (i k : ℕ) (p : Place h i k) (s : NameState) (time : ℕ) w
         place =
             record {
               interface = omega (arith, p.interface, length-set h.interfaces i changed);
-              name = subst (λ (x : Interface). k < length x.names) (sym here) (omega (arith, p.name, length-set (interface_of h i).names k (record { state = s })));
+              name = subst (λ (x : Interface). k < length x.names) (sym here) (omega (arith, p.name, length-set (interface_of h i).names k s));
             };
-        many = ap (λ (x : Interface). length x.names) here ∙ length-set (interface_of h i).names k (record { state = s });
+        many = ap (λ (x : Interface). length x.names) here ∙ length-set (interface_of h i).names k s;
         clock = refl;
       }
 

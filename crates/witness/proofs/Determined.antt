@@ -1,15 +1,6 @@
 -- Determined: of the answers that are asked for there is one list that is taken. Answers that stand in a message determine its octets
 -- there, all but the two of each owner, which are a pointer; and the octets determine the answers.
-use Prim.Native.Nat.{ℕ, ◌+◌, ◌-◌, ◌<◌, ◌≤◌}
-use mathlib.Core.Path.{◌≡◌, refl, sym, ap, ◌∙◌, subst}
-use mathlib.Core.List.{List, [], ◌∷◌, ◌++◌, append_assoc}
-use mathlib.Core.Bool.{Bool}
-use mathlib.Core.Logic.{◌↔◌, ◌⊎◌, inl, inr}
-use native.Mathlib.Omega.{arith}
-use lib.ListN.{length, take, drop, length-append, take-append-drop}
-use lib.Seq.{take_at, drop_at, drop-drop}
-use lib.Dec.{ltb}
-use borrow.Author.Tests.{ltb-true, ltb-false}
+use Rattle.std.proofs.Common.{ℕ, ◌+◌, ◌-◌, ◌<◌, ◌≤◌, ◌≡◌, refl, sym, ap, ◌∙◌, subst, List, [], ◌∷◌, ◌++◌, append_assoc, Bool, ◌↔◌, ◌⊎◌, inl, inr, arith, length, take, drop, length-append, take-append-drop, take_at, drop_at, drop-drop, ltb, ltb-true, ltb-false}
 use Rattle.octets.specs.Octets.{Octets, part_of}
 use Rattle.octets.specs.Words.{big_at, big_octets}
 use Rattle.octets.proofs.Tests.{split, never}

@@ -1,11 +1,5 @@
 -- The records of a name among the entries, and the octets of a reply with them, in the terms of specs/Replies.antt.
-use Prim.Native.Nat.{ℕ, suc, zero, ◌+◌, ◌<◌}
-use mathlib.Core.Path.{◌≡◌, refl, sym, ap, ◌∙◌}
-use mathlib.Core.List.{List, [], ◌∷◌, ◌++◌, map, append_assoc}
-use mathlib.Core.Bool.{Bool, true, cond}
-use native.Mathlib.Omega.{arith}
-use lib.ListN.{length, get_or}
-use lib.Dec.{eqb}
+use Rattle.std.proofs.Common.{ℕ, suc, zero, ◌+◌, ◌<◌, ◌≡◌, refl, sym, ap, ◌∙◌, List, [], ◌∷◌, ◌++◌, map, append_assoc, Bool, true, cond, arith, length, get_or, eqb}
 use Rattle.octets.specs.Tests.{◌or◌}
 use Rattle.octets.specs.Octets.{put}
 use Rattle.octets.specs.Words.{big_at, big_octets}

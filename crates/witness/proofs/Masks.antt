@@ -1,9 +1,5 @@
 -- Every record of a reply has the bit of the interface asked. A table without kind 6 is answered as it was, octet by octet.
-use Prim.Native.Nat.{ℕ, ◌+◌, ◌<◌}
-use mathlib.Core.Path.{◌≡◌, refl, ap, ◌∙◌, subst}
-use mathlib.Core.List.{List, [], ◌∷◌, ◌++◌, map}
-use lib.ListN.{length}
-use lib.Dec.{eqb}
+use Rattle.std.proofs.Common.{ℕ, ◌+◌, ◌<◌, ◌≡◌, refl, ap, ◌∙◌, subst, List, [], ◌∷◌, ◌++◌, map, length, eqb}
 use Rattle.octets.specs.Tests.{◌or◌}
 use Rattle.octets.specs.Octets.{Octets, part_of}
 use Rattle.octets.proofs.Tests.{split}

@@ -1,11 +1,5 @@
 -- The statement of specs/Replies.antt leaves nothing open: two calls of which it holds, for the same arrival and records, give the same.
-use Prim.Native.Nat.{ℕ, ◌+◌, ◌≤◌}
-use mathlib.Core.Path.{◌≡◌, refl, sym, ap, ◌∙◌, subst}
-use mathlib.Core.Logic.{◌⊎◌, inl, inr}
-use mathlib.Core.List.{List, [], ◌∷◌, ◌++◌}
-use mathlib.Core.Bool.{Bool, true, false}
-use native.Mathlib.Omega.{arith}
-use lib.ListN.{length, take, drop, length-append}
+use Rattle.std.proofs.Common.{ℕ, ◌+◌, ◌≤◌, ◌≡◌, refl, sym, ap, ◌∙◌, subst, ◌⊎◌, inl, inr, List, [], ◌∷◌, ◌++◌, Bool, true, false, arith, length, take, drop, length-append}
 use Rattle.octets.specs.Octets.{part_of}
 use Rattle.octets.specs.declared.Endpoint.{Endpoint}
 use Rattle.name_table.specs.Entries.{Data, data_octets}

@@ -1,9 +1,5 @@
 -- A reply holds the records of the name that is asked for, wherever it stands in the table; with two names, never the other's.
-use Prim.Native.Nat.{ℕ, suc, ◌+◌, ◌<◌}
-use mathlib.Core.Path.{◌≡◌, refl, sym, ap, ◌∙◌, subst}
-use mathlib.Core.List.{List, [], ◌∷◌, ◌++◌, map, append-nil, append_assoc}
-use native.Mathlib.Omega.{arith}
-use lib.ListN.{length, get_or}
+use Rattle.std.proofs.Common.{ℕ, suc, ◌+◌, ◌<◌, ◌≡◌, refl, sym, ap, ◌∙◌, subst, List, [], ◌∷◌, ◌++◌, map, append-nil, append_assoc, arith, length, get_or}
 use Rattle.octets.specs.Octets.{Octets, part_of}
 use Rattle.names.specs.Names.{Labels, IsName, encode}
 use Rattle.names.specs.Folding.{folded_name}

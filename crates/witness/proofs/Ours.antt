@@ -1,8 +1,6 @@
 -- The host's own addresses and those below an interface's, in the plain words of specs/States.antt.
-use mathlib.Core.Path.{◌≡◌, sym, ◌∙◌, subst}
+use Rattle.std.proofs.Common.{◌≡◌, sym, ◌∙◌, subst, ◌↔◌, ⊎_elim, true}
 use mathlib.Core.Logic.Iff
-use mathlib.Core.Logic.{◌↔◌, ⊎_elim}
-use mathlib.Core.Bool.{true}
 use Rattle.octets.specs.Addresses.{address_of, below_address}
 use Rattle.octets.specs.PlainAddresses.{IsOf}
 use Rattle.octets.specs.declared.Address.{Address}

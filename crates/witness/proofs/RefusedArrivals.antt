@@ -1,11 +1,7 @@
 -- Refused exactly: receive gives a refusal number exactly where its condition holds and those before it do not, as specs/Refusals.antt
 -- lists them for a query and for a response.
-use Prim.Native.Nat.{ℕ}
-use mathlib.Core.Path.{◌≡◌, refl, sym, ap, subst}
+use Rattle.std.proofs.Common.{None, Option, Some, ℕ, ◌≡◌, refl, sym, ap, subst, ◌↔◌, ◌≢◌, ◌⊎◌, inl, inr, ⊎_elim, List, Bool, true, false, cond, not}
 use mathlib.Core.Logic.Iff
-use mathlib.Core.Logic.{◌↔◌, ◌≢◌, ◌⊎◌, inl, inr, ⊎_elim}
-use mathlib.Core.List.{List}
-use mathlib.Core.Bool.{Bool, true, false, cond, not}
 use Rattle.octets.specs.Tests.{◌or◌}
 use Rattle.octets.specs.Addresses.{is_group}
 use Rattle.octets.proofs.PlainAddresses.{group_address}
@@ -14,12 +10,8 @@ use Rattle.refusal.specs.Numbers.{Report}
 use Rattle.refusal.specs.Checks.{verdict}
 use Rattle.refusal.specs.Cases.{Case, First}
 use Rattle.refusal.proofs.Cases.{Exactly, ends, check, skip}
-use Rattle.name_table.specs.declared.Found.{Found}
-use Rattle.name_table.specs.declared.Found.TheVariants.{At, Nothing}
 use Rattle.name_table.specs.Check.{Held, good, check_table, names_in, is_found, number_or}
 use Rattle.message.specs.declared.Question.{Question}
-use Rattle.message.specs.declared.QuestionRead.{QuestionRead}
-use Rattle.message.specs.declared.QuestionRead.TheVariants.{Good, Bad}
 use Rattle.message.specs.Header.{header_of}
 use Rattle.message.specs.Question.{question_at, question_or, is_bad_question}
 use Rattle.host.specs.State.{setting_of, state_of, HasStopped, off, unique, stopped, is}
@@ -35,23 +27,23 @@ use Rattle.witness.proofs.Ours.{ours_is}
 
 -- ---- tests, plainly
 
-question_bad : (r : QuestionRead) → (is_bad_question r ≡ true) ↔ (r ≡ Bad)
-question_bad (Good q) = (λ e. never e refl, λ e. never (ap is_bad_question e) refl)
-question_bad Bad = (λ e. refl, λ e. refl)
+question_bad : (r : Option Question) → (is_bad_question r ≡ true) ↔ (r ≡ None)
+question_bad (Some q) = (λ e. never e refl, λ e. never (ap is_bad_question e) refl)
+question_bad None = (λ e. refl, λ e. refl)
 
 -- what holds of the name that was found
-of_found : (f : Found) (P : ℕ → Type 0) → is_found f ≡ true → P (number_or f) ↔ ((k : ℕ) × (f ≡ At k) × P k)
-of_found (At k) P e = (λ x. (k, refl, x), λ x. subst P (sym (ap number_or x.1)) x.2)
-of_found Nothing P e = never e refl
+of_found : (f : Option ℕ) (P : ℕ → Type 0) → is_found f ≡ true → P (number_or f) ↔ ((k : ℕ) × (f ≡ Some k) × P k)
+of_found (Some k) P e = (λ x. (k, refl, x), λ x. subst P (sym (ap number_or x.1)) x.2)
+of_found None P e = never e refl
 
 -- no name was found, or this holds of the one that was
-none_or : (f : Found) (b : Bool) (P : ℕ → Type 0) → (b ≡ true) ↔ P (number_or f)
-    → ((not (is_found f) or b) ≡ true) ↔ ((f ≡ Nothing) ⊎ ((k : ℕ) × (f ≡ At k) × P k))
-none_or (At k) b P i = (
+none_or : (f : Option ℕ) (b : Bool) (P : ℕ → Type 0) → (b ≡ true) ↔ P (number_or f)
+    → ((not (is_found f) or b) ≡ true) ↔ ((f ≡ None) ⊎ ((k : ℕ) × (f ≡ Some k) × P k))
+none_or (Some k) b P i = (
   λ e. inr (k, refl, i.0 e),
   ⊎_elim (λ x. never refl (ap is_found x)) (λ x. i.1 (subst P (sym (ap number_or x.1)) x.2)),
 )
-none_or Nothing b P i = (λ e. inl refl, λ x. refl)
+none_or None b P i = (λ e. inl refl, λ x. refl)
 
 -- a name waits for a response
 pub awaited_is : (a : Arrival) (q : Question) (s : NameState) → (awaits s (header a).id q.qtype q.class ≡ true) ↔ IsAwaited a q s
@@ -70,7 +62,7 @@ module _ (h : Host) (a : Arrival) where
   names = names_in (check_table a.table)
 
   -- what holds of the names and the question that were read
-  of_question : check_table a.table ≡ good names → question_at a.datagram 12 ≡ Good (question a) → (c : List Held → Question → Type 0)
+  of_question : check_table a.table ≡ good names → question_at a.datagram 12 ≡ Some (question a) → (c : List Held → Question → Type 0)
       → c names (question a) ↔ OfQuestion a c
   of_question g r c = (
     λ x. (names, question a, g, r, x),
@@ -99,7 +91,7 @@ module _ (h : Host) (a : Arrival) where
 
   -- ---- the name's checks
 
-  module _ (g : check_table a.table ≡ good names) (r : question_at a.datagram 12 ≡ Good (question a)) where
+  module _ (g : check_table a.table ≡ good names) (r : question_at a.datagram 12 ≡ Some (question a)) where
     not_ours_is : (not_ours h a ≡ true) ↔ OfQuestion a (λ hs q. IsForNone a hs q ⊎ ((k : ℕ) × IsFor a hs q k × (here k ≡ Off)))
     not_ours_is =
         Iff.trans

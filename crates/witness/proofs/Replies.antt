@@ -1,12 +1,5 @@
 -- What receive replies is the whole reply of specs/Replies.antt.
-use Prim.Native.Nat.{ℕ, ◌+◌, ◌-◌, ◌<◌, ◌≤◌}
-use mathlib.Core.Path.{◌≡◌, refl, sym, ap, ◌∙◌, subst}
-use mathlib.Core.Logic.{◌↔◌}
-use mathlib.Core.List.{List, [], ◌∷◌, ◌++◌, map, append_assoc, append-nil}
-use mathlib.Core.Bool.{Bool, true, false, cond}
-use native.Mathlib.Omega.{arith}
-use lib.ListN.{length, get_or, take, drop}
-use lib.Seq.{take_at, drop_at}
+use Rattle.std.proofs.Common.{Some, ℕ, ◌+◌, ◌-◌, ◌<◌, ◌≤◌, ◌≡◌, refl, sym, ap, ◌∙◌, subst, ◌↔◌, List, [], ◌∷◌, ◌++◌, map, append_assoc, append-nil, Bool, true, false, cond, arith, length, get_or, take, drop, take_at, drop_at}
 use Rattle.octets.specs.Octets.{Octets, part_of, put}
 use Rattle.octets.specs.Words.{big_at, big_octets}
 use Rattle.octets.proofs.Octets.{part_in, length_part, octets_part}
@@ -16,13 +9,10 @@ use Rattle.names.specs.Names.{Labels, encode, NameAt}
 use Rattle.names.specs.Folding.{folded_name}
 use Rattle.name_table.specs.Check.{Held, good, check_table, name_in, find_name}
 use Rattle.name_table.specs.Entries.{Data, names, Owned, owned, located, valid_for, Answer, answer_of, GoodTable}
-use Rattle.name_table.specs.declared.Found.TheVariants.{At}
 use Rattle.name_table.proofs.Meaning.{good_iff}
 use Rattle.name_table.proofs.Numbers.{finds}
 use Rattle.name_table.proofs.Records.{valid_are}
 use Rattle.message.specs.declared.ReplyHead.{ReplyHead}
-use Rattle.message.specs.declared.HeaderRead.TheVariants.{Good as GoodHeader}
-use Rattle.message.specs.declared.QuestionRead.TheVariants.{Good}
 use Rattle.message.specs.Header.{header_at}
 use Rattle.message.specs.Question.{question_at, IsQuestion}
 use Rattle.message.specs.Query.{count_octets}
@@ -81,8 +71,8 @@ module _ (h : Host) (a : Arrival) (w : RepliesWhen h a) (o : Octets a.datagram) 
         octets = ap (take (length (encode labels))) asked_octets ∙ take_at (encode labels) (big_octets w.q.qtype ++ big_octets w.q.class) (length (encode labels)) refl;
       }
 
-  pub same_question : Good (record { name = w.q.name; labels = w.q.labels; qtype = w.q.qtype; class = w.q.class; end = 12 + w.q.name + 4 }) ≡ Good w.q
-  same_question = ap (λ (e : ℕ). Good (record { name = w.q.name; labels = w.q.labels; qtype = w.q.qtype; class = w.q.class; end = e })) (sym is_question.end)
+  pub same_question : Some (record { name = w.q.name; labels = w.q.labels; qtype = w.q.qtype; class = w.q.class; end = 12 + w.q.name + 4 }) ≡ Some w.q
+  same_question = ap (λ (e : ℕ). Some (record { name = w.q.name; labels = w.q.labels; qtype = w.q.qtype; class = w.q.class; end = e })) (sym is_question.end)
 
   room_is : has_room a.out 512 asked ≡ true
   room_is = (has_room_lem a.out 512 asked).1 (w.query.arrives.called.room, asked_short)
@@ -96,15 +86,15 @@ module _ (h : Host) (a : Arrival) (w : RepliesWhen h a) (o : Octets a.datagram) 
     names_are : w.names ≡ located 0 t.entries
     names_are = let e = w.query.arrives.called.good_table in let f = good_names in cc
 
-    found : (j : ℕ) → (find_name (located 0 t.entries) (encode labels) ≡ At j)
+    found : (j : ℕ) → (find_name (located 0 t.entries) (encode labels) ≡ Some j)
         ↔ ((j < length (names t.entries)) × (folded_name (get_or (names t.entries) j []) ≡ folded_name labels))
     found j = finds a.table t labels is_question.name.is_name j
 
-    found_here : find_name (located 0 t.entries) (encode labels) ≡ At w.k
+    found_here : find_name (located 0 t.entries) (encode labels) ≡ Some w.k
     found_here =
         ap (λ (x : List Held). find_name x (encode labels)) (sym names_are) ∙ ap (find_name w.names) (sym named) ∙ w.name
 
-    number_is : (j k : ℕ) → At j ≡ At k → j ≡ k
+    number_is : (j k : ℕ) → Some j ≡ Some k → j ≡ k
     number_is j k e = cc
 
     asks : AsksTheName a w.q t.entries w.k (get_or (names t.entries) w.k [])
@@ -221,16 +211,16 @@ module _ (h : Host) (a : Arrival) (w : RepliesWhen h a) (o : Octets a.datagram) 
             }
 
     header_is : header_at octets
-        ≡ GoodHeader (reply_header (big_at a.datagram 0) (is_shared state) taken.cut (is_verifying state) (length given))
+        ≡ Some (reply_header (big_at a.datagram 0) (is_shared state) taken.cut (is_verifying state) (length given))
     header_is =
         ap header_at (sym (append-nil octets))
         ∙ reads_header 512 head asked w.q.qtype (map answer_of records) []
-        ∙ ap (λ (i : ℕ). GoodHeader (reply_header i (is shared state) taken.cut (is verifying state) (length taken.answers))) (id_is a.datagram)
-        ∙ ap (λ (c : Bool). GoodHeader (reply_header (big_at a.datagram 0) c taken.cut (is verifying state) (length taken.answers))) (shared_is state)
-        ∙ ap (λ (v : Bool). GoodHeader (reply_header (big_at a.datagram 0) (is_shared state) taken.cut v (length taken.answers))) (verifying_is state)
-        ∙ ap (λ (n : ℕ). GoodHeader (reply_header (big_at a.datagram 0) (is_shared state) taken.cut (is_verifying state) n)) (ap length split_records.first ∙ many given)
+        ∙ ap (λ (i : ℕ). Some (reply_header i (is shared state) taken.cut (is verifying state) (length taken.answers))) (id_is a.datagram)
+        ∙ ap (λ (c : Bool). Some (reply_header (big_at a.datagram 0) c taken.cut (is verifying state) (length taken.answers))) (shared_is state)
+        ∙ ap (λ (v : Bool). Some (reply_header (big_at a.datagram 0) (is_shared state) taken.cut v (length taken.answers))) (verifying_is state)
+        ∙ ap (λ (n : ℕ). Some (reply_header (big_at a.datagram 0) (is_shared state) taken.cut (is_verifying state) n)) (ap length split_records.first ∙ many given)
 
-    question_is : question_at octets 12 ≡ Good w.q
+    question_is : question_at octets 12 ≡ Some w.q
     question_is =
         ap (λ (x : List ℕ). question_at x 12) (reply_laid 512 head asked w.q.qtype (map answer_of records))
         ∙ question_moves a.datagram 12 w.q o is_question

@@ -1,14 +1,7 @@
 -- Two queries with the same ID and the same question get the same reply, whatever else they hold, and wherever they arrived if the same
 -- records of the name are valid there.
-use Prim.Native.Nat.{ℕ, ◌+◌, ◌-◌, ◌*◌, ◌/◌, ◌<◌, ◌≤◌}
-use mathlib.Core.Path.{◌≡◌, refl, sym, ap, ◌∙◌, subst}
-use mathlib.Core.Logic.{⊎_map}
-use mathlib.Core.List.{List, [], ◌∷◌, ◌++◌, map}
-use mathlib.Core.Bool.{Bool}
-use native.Mathlib.Omega.{arith}
-use lib.ListN.{length, get_or, take, drop, take-append-drop}
-use lib.Seq.{take_at, take-take, length-take-le}
-use lib.Dec.{eqb}
+use Rattle.std.proofs.Common.{Some, ℕ, ◌+◌, ◌-◌, ◌*◌, ◌/◌, ◌<◌, ◌≤◌, ◌≡◌, refl, sym, ap, ◌∙◌, subst, List, [], ◌∷◌, ◌++◌, map, Bool, arith, length, get_or, take, drop, take-append-drop, take_at, take-take, length-take-le, eqb, ltb, ltb-true, ltb-false}
+use Rattle.std.proofs.Math.Logic.{⊎_map}
 use Rattle.octets.specs.Octets.{Octets, octet_at, part_of}
 use Rattle.octets.specs.Words.{big_octets}
 use Rattle.octets.proofs.Octets.{part_in, part_past, octet_at_lem}
@@ -16,7 +9,6 @@ use Rattle.names.specs.Names.{Labels, encode}
 use Rattle.name_table.specs.Check.{name_in, find_name}
 use Rattle.name_table.specs.Entries.{Owned, owned, valid_for, Answer, answer_of, GoodTable}
 use Rattle.message.specs.declared.Question.{Question}
-use Rattle.message.specs.declared.QuestionRead.TheVariants.{Good}
 use Rattle.message.specs.Header.{bits, header_of}
 use Rattle.message.specs.Question.{question_at}
 use Rattle.message.specs.Reply.{reply_written, answers_in}
@@ -35,8 +27,6 @@ use Rattle.witness.proofs.Replies.{is_question, labels, named, asked_end, asked_
 use Rattle.witness.proofs.OnlyItsOwn.{records_of}
 use Rattle.witness.proofs.Laid.{id_is, shared_is, verifying_is}
 use Rattle.octets.proofs.Tests.{split}
-use lib.Dec.{ltb}
-use borrow.Author.Tests.{ltb-true, ltb-false}
 
 -- ---- what a reply depends on
 
@@ -64,7 +54,7 @@ abbrev twelve : List ℕ
 twelve = 0 ∷ 0 ∷ 0 ∷ 0 ∷ 0 ∷ 0 ∷ 0 ∷ 0 ∷ 0 ∷ 0 ∷ 0 ∷ 0 ∷ []
 
 question_of : (h : Host) (a : Arrival) (w : RepliesWhen h a) (o : Octets a.datagram)
-    → question_at (twelve ++ (part_of a.datagram 12 w.q.end ++ [])) 12 ≡ Good w.q
+    → question_at (twelve ++ (part_of a.datagram 12 w.q.end ++ [])) 12 ≡ Some w.q
 question_of h a w o = question_moves a.datagram 12 w.q o (is_question h a w o) twelve [] ∙ same_question h a w o
 
 -- ---- the same reply
@@ -73,7 +63,7 @@ module _ (h : Host) (a b : Arrival) (v : RepliesWhen h a) (w : RepliesWhen h b) 
     (s : SameAsked a b v.q w.q) where
   same_q : v.q ≡ w.q
   same_q =
-      let e : Good v.q ≡ Good w.q = sym (question_of h a v oa) ∙ ap (λ (x : List ℕ). question_at (twelve ++ (x ++ [])) 12) s.question ∙ question_of h b w ob in
+      let e : Some v.q ≡ Some w.q = sym (question_of h a v oa) ∙ ap (λ (x : List ℕ). question_at (twelve ++ (x ++ [])) 12) s.question ∙ question_of h b w ob in
       cc
 
   same_id : (header_of a.datagram).id ≡ (header_of b.datagram).id
@@ -140,7 +130,7 @@ module _ (h : Host) (a : Arrival) (v : RepliesWhen h a) (o : Octets a.datagram) 
   part_is : take (v.q.end - 12) (drop 12 e) ≡ part_of a.datagram 12 v.q.end
   part_is = sym (part_in e 12 v.q.end from_twelve inside) ∙ sym s.question
 
-  asks_it : question_at e 12 ≡ Good v.q
+  asks_it : question_at e 12 ≡ Some v.q
   asks_it =
       let r : List ℕ = drop (v.q.end - 12) (drop 12 e) in
       let n : length (take 12 e) ≡ 12 = length-take-le 12 e (omega (arith, from_twelve, inside)) in
@@ -149,7 +139,7 @@ module _ (h : Host) (a : Arrival) (v : RepliesWhen h a) (o : Octets a.datagram) 
       ∙ ap (λ (x : List ℕ). take 12 e ++ x) (sym (take-append-drop (v.q.end - 12) (drop 12 e)) ∙ ap (λ (x : List ℕ). x ++ r) part_is) in
       ap (λ (x : List ℕ). question_at x 12) laid
       ∙ subst (λ (x : ℕ). question_at (take 12 e ++ (part_of a.datagram 12 v.q.end ++ r)) x
-      ≡ Good (record { name = v.q.name; labels = v.q.labels; qtype = v.q.qtype; class = v.q.class; end = x + v.q.name + 4 })) n
+      ≡ Some (record { name = v.q.name; labels = v.q.labels; qtype = v.q.qtype; class = v.q.class; end = x + v.q.name + 4 })) n
       (question_moves a.datagram 12 v.q o (is_question h a v o) (take 12 e) r)
       ∙ same_question h a v o
 

@@ -1,11 +1,5 @@
 -- The table of states by events of specs/States.antt, a row a theorem: starts, queries and responses.
-use Prim.Native.Nat.{ℕ, ◌+◌, ◌-◌, ◌<◌}
-use mathlib.Core.Path.{◌≡◌, refl, sym, ap, ◌∙◌, subst}
-use mathlib.Core.Logic.{inl, inr, ⊎_elim}
-use mathlib.Core.List.{List}
-use mathlib.Core.Bool.{true, false, not}
-use native.Mathlib.Omega.{arith}
-use lib.ListN.{length, get_or, take, drop}
+use Rattle.std.proofs.Common.{Some, ℕ, ◌+◌, ◌-◌, ◌<◌, ◌≡◌, refl, sym, ap, ◌∙◌, subst, inl, inr, ⊎_elim, List, true, false, not, arith, length, get_or, take, drop}
 use Rattle.octets.specs.Tests.{◌or◌}
 use Rattle.octets.specs.Octets.{Octets}
 use Rattle.octets.specs.Addresses.{address_of, below_address}
@@ -14,7 +8,6 @@ use Rattle.refusal.specs.Numbers.{number}
 use Rattle.refusal.specs.Checks.{refused, next, stop}
 use Rattle.name_table.specs.Check.{Held, no_name}
 use Rattle.message.specs.declared.Question.{Question}
-use Rattle.message.specs.declared.HeaderRead.TheVariants.{Good}
 use Rattle.message.specs.Header.{header_of}
 use Rattle.message.specs.Query.{query_with}
 use Rattle.message.specs.Reply.{reply_header}
@@ -153,7 +146,7 @@ module _ (h : Host) (a : Arrival) (names : List Held) (q : Question) (k : ℕ) (
             to = ap (λ (x : Done). x.to) d;
             cut = b.cut;
             answers = b.answers;
-            header = b.header_is ∙ ap (λ (x : NameState). Good (reply_header (header_of a.datagram).id (is shared x) b.cut (is verifying x) b.answers)) e;
+            header = b.header_is ∙ ap (λ (x : NameState). Some (reply_header (header_of a.datagram).id (is shared x) b.cut (is verifying x) b.answers)) e;
           }
 
       go : (s : NameState) → state_here h a k ≡ s → ClearQuery h a s (receive h a)

@@ -1,14 +1,7 @@
 -- What a call can come to, in the words of specs/States.antt, leaves nothing open: two results of which the same is said are the same. A
 -- host with four interfaces of eight names keeps them.
-use Prim.Native.Nat.{ℕ, zero, suc, ◌<◌}
-use mathlib.Core.Path.{◌≡◌, refl, sym, ap, ◌∙◌, subst}
-use mathlib.Core.Logic.{◌↔◌, ⊎_elim}
-use mathlib.Core.List.{List}
-use native.Mathlib.Omega.{arith}
-use lib.ListN.{length, get_or}
-use lib.Seq.{ext_get_or}
-use lib.Dec.{eqb}
-use borrow.Author.Tests.{eqb-true, eqb-false}
+use Rattle.std.proofs.Common.{ℕ, zero, suc, ◌<◌, ◌≡◌, refl, sym, ap, ◌∙◌, subst, ◌↔◌, ⊎_elim, List, arith, length, get_or, ext_get_or, eqb, eqb-true}
+use Rattle.std.proofs.lemmas.Bool.{eqb-false}
 use Rattle.octets.specs.declared.Endpoint.{Endpoint}
 use Rattle.octets.specs.declared.Setting.{Setting}
 use Rattle.octets.proofs.PlainAddresses.{group_one}
@@ -19,7 +12,6 @@ use Rattle.host.specs.State.{off_name, absent, interface_of, state_of}
 use Rattle.host.specs.Outcomes.{CallResult, refused, Done}
 use Rattle.host.specs.Laws.{Unchanged, Accepted}
 use Rattle.host.specs.declared.NameState.{NameState}
-use Rattle.host.specs.declared.Name.{Name}
 use Rattle.host.specs.declared.Interface.{Interface}
 use Rattle.host.specs.declared.Host.{Host}
 use Rattle.host.proofs.Accepted.{refused_or}
@@ -29,11 +21,11 @@ use Rattle.witness.specs.Whole.{Full, RefusedExactly}
 
 -- ---- hosts
 
-same_interface : {s t : Setting} {l m : List Name} → s ≡ t → l ≡ m
+same_interface : {s t : Setting} {l m : List NameState} → s ≡ t → l ≡ m
     → ◌≡◌ {A = Interface} (record { setting = s; names = l }) (record { setting = t; names = m })
 same_interface e f = rw (e, f)
 
-same_name : {s t : NameState} → s ≡ t → ◌≡◌ {A = Name} (record { state = s }) (record { state = t })
+same_name : {s t : NameState} → s ≡ t → ◌≡◌ {A = NameState} s t
 same_name e = rw e
 
 module _ (h : Host) (i k : ℕ) (s : NameState) (time : ℕ) (d e : Done) (v : Moves h i k s time d) (w : Moves h i k s time e) where

@@ -1,17 +1,11 @@
 -- Receive is the plain one of specs/Whole.antt, and nothing else is. It leaves a host with four interfaces of eight names.
-use Prim.Native.Nat.{ℕ, ◌+◌, ◌-◌, ◌<◌}
-use mathlib.Core.Path.{◌≡◌, refl, sym, ap, ◌∙◌, subst}
-use mathlib.Core.List.{List, [], ◌∷◌}
-use mathlib.Core.Bool.{true, false, not}
-use native.Mathlib.Omega.{arith}
-use lib.ListN.{length, take, drop}
+use Rattle.std.proofs.Common.{Some, ℕ, ◌+◌, ◌-◌, ◌<◌, ◌≡◌, refl, sym, ap, ◌∙◌, subst, List, [], ◌∷◌, true, false, not, arith, length, take, drop}
 use Rattle.octets.specs.Tests.{◌or◌}
 use Rattle.octets.specs.Octets.{Octets}
 use Rattle.octets.specs.Addresses.{address_of, below_address}
 use Rattle.octets.proofs.Tests.{split, never, only_first, not_not}
 use Rattle.refusal.specs.Checks.{Clear}
 use Rattle.names.specs.Folding.{same_name}
-use Rattle.name_table.specs.declared.Found.TheVariants.{At}
 use Rattle.name_table.specs.Check.{Held, check_table, names_in, find_from, is_found, number_or}
 use Rattle.name_table.specs.Entries.{GoodTable, Owned, valid_for}
 use Rattle.name_table.proofs.Held.{few_held}
@@ -48,7 +42,7 @@ use Rattle.witness.proofs.Whole.{moves_full, same_full, becomes_one, asks_one, l
 -- ---- the name that is found
 
 -- it is one of those that were searched
-found_below : (n : ℕ) (hs : List Held) (x : List ℕ) (k : ℕ) → find_from n hs x ≡ At k → k < n + length hs
+found_below : (n : ℕ) (hs : List Held) (x : List ℕ) (k : ℕ) → find_from n hs x ≡ Some k → k < n + length hs
 unfolding find_from
 found_below n [] x k e = let z : ◌≡◌ {A = ℕ} 0 1 = cc in absurd (omega arith)
 found_below n (y ∷ hs) x k e =
@@ -68,7 +62,7 @@ module _ (h : Host) (a : Arrival) where
   found_one hs q k f P x =
       let n : names ≡ hs = ap names_in f.good_table in
       let e : question a ≡ q = ap question_or f.question in
-      let m : found a ≡ At k = cc f.name in
+      let m : found a ≡ Some k = cc f.name in
       subst (P q) (ap number_or m) (subst (λ (p : Question). P p (name_number a)) e x)
 
   -- ---- what has been passed
@@ -77,7 +71,7 @@ module _ (h : Host) (a : Arrival) where
     query_clear : Clear (query_checks h a)
     query_clear = rw qr at (after_11 h a c)
 
-    query_found : found a ≡ At (name_number a)
+    query_found : found a ≡ Some (name_number a)
     query_found = found_at (found a) ((only_first (is_found (found a)) (is off (state h a))).0 query_clear.0).0
 
     query_name : ForName a names (question a) (name_number a)
@@ -110,7 +104,7 @@ module _ (h : Host) (a : Arrival) where
     matched : (is_found (found a) ≡ true) × (not (awaits (state h a) (header a).id (question a).qtype (question a).class) ≡ false)
     matched = (only_first _ _).0 response_clear.0
 
-    response_found : found a ≡ At (name_number a)
+    response_found : found a ≡ Some (name_number a)
     response_found = found_at (found a) matched.0
 
     response_name : ForName a names (question a) (name_number a)

@@ -1,12 +1,5 @@
 -- Set-up and start are the plain ones of specs/Whole.antt, and nothing else is. They leave a host with four interfaces of eight names.
-use Prim.Native.Nat.{ℕ, zero, suc, ◌+◌, ◌<◌}
-use mathlib.Core.Path.{◌≡◌, refl, sym, ap, ◌∙◌, subst}
-use mathlib.Core.Logic.{◌⊎◌, inl, inr, ⊎_elim}
-use mathlib.Core.List.{List, [], ◌∷◌}
-use native.Mathlib.Omega.{arith}
-use lib.ListN.{length, get_or}
-use lib.Dec.{ltb}
-use borrow.Author.Tests.{ltb-true, ltb-false, leb-false}
+use Rattle.std.proofs.Common.{ℕ, zero, suc, ◌+◌, ◌<◌, ◌≡◌, refl, sym, ap, ◌∙◌, subst, ◌⊎◌, inl, inr, ⊎_elim, List, [], ◌∷◌, arith, length, get_or, ltb, ltb-true, ltb-false, leb-false}
 use Rattle.octets.proofs.Tests.{split}
 use Rattle.octets.specs.Octets.{Octets}
 use Rattle.octets.specs.PlainAddresses.{nothing}

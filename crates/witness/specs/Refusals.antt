@@ -1,15 +1,13 @@
 -- When each refusal number is given: for set-up, start, tick and receive a list of number and condition, in the order of rules F for the
 -- call. That a call gives a number exactly as its list says is shown in proofs/Refusals.antt and proofs/RefusedArrivals.antt.
-use Rattle.std.specs.Prelude.{ℕ, ◌+◌, ◌<◌, ◌≤◌, ◌≡◌, ◌≢◌, ◌⊎◌, List, [], ◌∷◌, true, cond, length, get_or}
+use Rattle.std.specs.Prelude.{ℕ, ◌+◌, ◌<◌, ◌≤◌, ◌≡◌, ◌≢◌, ◌⊎◌, List, [], ◌∷◌, true, cond, length, get_or, None, Some}
 use Rattle.octets.specs.Octets.{part_of}
 use Rattle.octets.specs.Addresses.{address_of, unused}
 use Rattle.octets.specs.PlainAddresses.{IsGroup}
 use Rattle.octets.specs.declared.Setting.{Setting}
 use Rattle.refusal.specs.Cases.{Case, case, case_at}
-use Rattle.name_table.specs.declared.Found.TheVariants.{At, Nothing}
 use Rattle.name_table.specs.Check.{Held, good, bad, check_table, find_name}
 use Rattle.message.specs.declared.Question.{Question}
-use Rattle.message.specs.declared.QuestionRead.TheVariants.{Good, Bad}
 use Rattle.message.specs.Header.{header_of}
 use Rattle.message.specs.Question.{question_at}
 use Rattle.host.specs.State.{setting_of, state_of, HasStopped}
@@ -62,14 +60,14 @@ tick_cases h table i time out = early_cases h table i time out []
 -- this holds of the table's names and of the question after the header
 abbrev pub OfQuestion : Arrival → (List Held → Question → Type 0) → Type 0
 OfQuestion a c =
-    (names : List Held) × (q : Question) × (check_table a.table ≡ good names) × (question_at a.datagram 12 ≡ Good q) × c names q
+    (names : List Held) × (q : Question) × (check_table a.table ≡ good names) × (question_at a.datagram 12 ≡ Some q) × c names q
 
 -- it asks for the k-th of these names; for none of them
 abbrev pub IsFor : Arrival → List Held → Question → ℕ → Type 0
-IsFor a names q k = find_name names (part_of a.datagram 12 (12 + q.name)) ≡ At k
+IsFor a names q k = find_name names (part_of a.datagram 12 (12 + q.name)) ≡ Some k
 
 abbrev pub IsForNone : Arrival → List Held → Question → Type 0
-IsForNone a names q = find_name names (part_of a.datagram 12 (12 + q.name)) ≡ Nothing
+IsForNone a names q = find_name names (part_of a.datagram 12 (12 + q.name)) ≡ None
 
 -- 5: below 12 or above 9,194 octets
 abbrev pub IsBadLength : Arrival → Type 0
@@ -103,7 +101,7 @@ query_cases h a =
     ∷ case 6 (IsBadAddress h a (IsGroup a.to → ⊥))
     ∷ case 7 ((header_of a.datagram).opcode ≢ 0)
     ∷ case 9 (((header_of a.datagram).questions ≢ 1) ⊎ ((header_of a.datagram).answers ≢ 0) ⊎ ((header_of a.datagram).authorities ≢ 0))
-    ∷ case 10 (question_at a.datagram 12 ≡ Bad)
+    ∷ case 10 (question_at a.datagram 12 ≡ None)
     ∷ case 11 (OfQuestion a (λ names q. (q.class ≢ 1) × (q.class ≢ 255)))
     ∷ case 12 (OfQuestion a (λ names q. IsForNone a names q ⊎ ((k : ℕ) × IsFor a names q k × (state_of h a.interface k ≡ Off))))
     ∷ case 13 (OfQuestion a (λ names q. (k : ℕ) × IsFor a names q k × HasStopped (state_of h a.interface k)))
@@ -119,7 +117,7 @@ response_cases h a =
     ∷ case 7 ((header_of a.datagram).opcode ≢ 0)
     ∷ case 8 ((header_of a.datagram).rcode ≢ 0)
     ∷ case 9 ((header_of a.datagram).questions ≢ 1)
-    ∷ case 10 (question_at a.datagram 12 ≡ Bad)
+    ∷ case 10 (question_at a.datagram 12 ≡ None)
     ∷ case 15 (OfQuestion a (λ names q. IsForNone a names q ⊎ ((k : ℕ) × IsFor a names q k × (IsAwaited a q (state_of h a.interface k) → ⊥))))
     ∷ case 16 (Ours h a.from.address)
     ∷ [])

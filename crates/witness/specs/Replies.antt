@@ -1,6 +1,6 @@
 -- The reply, whole, in plain terms: entries of the table, octets and states, with the rules' own numbers. That receive gives it is shown
 -- in proofs/Replies.antt.
-use Rattle.std.specs.Prelude.{ℕ, ◌+◌, ◌/◌, ◌%◌, ◌<◌, ◌≤◌, ◌≡◌, ◌↔◌, List, [], ◌∷◌, ◌++◌, map, Bool, true, false, cond, length, get_or, take, drop, eqb}
+use Rattle.std.specs.Prelude.{ℕ, ◌+◌, ◌/◌, ◌%◌, ◌<◌, ◌≤◌, ◌≡◌, ◌↔◌, List, [], ◌∷◌, ◌++◌, map, Bool, true, false, cond, length, get_or, take, drop, eqb, Some}
 use Rattle.octets.specs.Tests.{◌or◌}
 use Rattle.octets.specs.Octets.{part_of}
 use Rattle.octets.specs.Words.{big_at}
@@ -9,8 +9,6 @@ use Rattle.names.specs.Folding.{folded_name}
 use Rattle.name_table.specs.Masks.{Valid}
 use Rattle.name_table.specs.Entries.{NameKind, Data, a as a4, aaaa, ptr, Entry, resource, names, data_octets, Owned, IsNumber, valid_for, answer_of}
 use Rattle.message.specs.declared.Question.{Question}
-use Rattle.message.specs.declared.HeaderRead.TheVariants.{Good as GoodHeader}
-use Rattle.message.specs.declared.QuestionRead.TheVariants.{Good}
 use Rattle.message.specs.Header.{header_at}
 use Rattle.message.specs.Question.{question_at, IsQuestion}
 use Rattle.message.specs.Reply.{Answered}
@@ -148,7 +146,7 @@ pub record WholeReply (h : Host) (a : Arrival) (q : Question) (state : NameState
   pub size : length d.octets ≡ length a.out
   -- as it is read: header, question, and record by record
   pub reads_header : header_at (take len d.octets)
-      ≡ GoodHeader
+      ≡ Some
       (record {
         id = big_at a.datagram 0;
         response = true;
@@ -162,7 +160,7 @@ pub record WholeReply (h : Host) (a : Arrival) (q : Question) (state : NameState
         authorities = 0;
         additionals = 0;
       })
-  pub reads_question : question_at (take len d.octets) 12 ≡ Good q
+  pub reads_question : question_at (take len d.octets) 12 ≡ Some q
   pub reads_records : Answered (take len d.octets) q.end len (part_of a.datagram 12 (12 + q.name)) (map answer_of given)
 
 -- The question q stands after the header. Its name is that of these labels, and of all names of the table the k-th alone equals it.

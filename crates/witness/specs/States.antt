@@ -1,6 +1,6 @@
 -- What a call leaves and sends, whole, and the table of states by events, in plain terms and the rules' numbers. It is shown in
 -- proofs/States.antt (starts, queries and responses) and proofs/Times.antt (ticks and set-up).
-use Rattle.std.specs.Prelude.{ℕ, ◌+◌, ◌-◌, ◌<◌, ◌≤◌, ◌≡◌, ◌≢◌, List, [], ◌∷◌, ◌++◌, Bool, true, false, length, take, drop}
+use Rattle.std.specs.Prelude.{ℕ, ◌+◌, ◌-◌, ◌<◌, ◌≤◌, ◌≡◌, ◌≢◌, List, [], ◌∷◌, ◌++◌, Bool, true, false, length, take, drop, Some}
 use Rattle.octets.specs.Addresses.{Below}
 use Rattle.octets.specs.PlainAddresses.{GroupEndpoint, IsOf, nothing}
 use Rattle.octets.specs.declared.Endpoint.{Endpoint}
@@ -9,7 +9,6 @@ use Rattle.octets.specs.declared.Setting.{Setting}
 use Rattle.refusal.specs.Numbers.{number}
 use Rattle.name_table.specs.Check.{Held, good, check_table}
 use Rattle.message.specs.declared.Question.{Question}
-use Rattle.message.specs.declared.HeaderRead.TheVariants.{Good}
 use Rattle.message.specs.Header.{header_of, header_at}
 use Rattle.message.specs.Query.{query_with}
 use Rattle.host.specs.State.{interface_of, setting_of, state_of, IsInterval, due_at}
@@ -20,7 +19,6 @@ use Rattle.host.specs.Stopping.{StopsUntil}
 use Rattle.host.specs.Tick.{tick}
 use Rattle.host.specs.declared.NameState.{NameState}
 use Rattle.host.specs.declared.NameState.TheVariants.{Off, Verifying, Unique, Defending, Stopped, Shared}
-use Rattle.host.specs.declared.Name.{Name}
 use Rattle.host.specs.declared.Interface.{Interface}
 use Rattle.host.specs.declared.Host.{Host}
 
@@ -72,7 +70,7 @@ pub record Replies (h : Host) (a : Arrival) (c t : Bool) (d : Done) : Type 0 whe
   pub cut : Bool
   pub answers : ℕ
   pub header : header_at (take len d.octets)
-      ≡ Good
+      ≡ Some
       (record {
         id = (header_of a.datagram).id;
         response = true;
@@ -276,7 +274,7 @@ pub record DueExactly (table : List ℕ) (names : List Held) (i k n sent : ℕ) 
 -- an interface with its setting, and its eight names Off
 abbrev pub fresh : Setting → Interface
 fresh s =
-    let off : Name = record { state = Off } in
+    let off : NameState = Off in
     record { setting = s; names = off ∷ off ∷ off ∷ off ∷ off ∷ off ∷ off ∷ off ∷ [] }
 
 abbrev pub host_of : Setting → Setting → Setting → Setting → ℕ → Host

@@ -1,7 +1,7 @@
 -- Each call, whole and in plain terms: what a result d of it is, with the rules' own numbers and without the definition of the call. That
 -- the call gives such a result, and that no other result is such, is shown in proofs/WholeStart.antt (set-up and start),
 -- proofs/WholeTick.antt and proofs/WholeReceive.antt.
-use Rattle.std.specs.Prelude.{ℕ, ◌+◌, ◌-◌, ◌<◌, ◌≡◌, ◌↔◌, List, [], ◌∷◌, true, false, length, get_or, take, drop}
+use Rattle.std.specs.Prelude.{ℕ, ◌+◌, ◌-◌, ◌<◌, ◌≡◌, ◌↔◌, List, [], ◌∷◌, true, false, length, get_or, take, drop, Some}
 use Rattle.octets.specs.PlainAddresses.{nothing}
 use Rattle.octets.specs.declared.Setting.{Setting}
 use Rattle.refusal.specs.Numbers.{Report}
@@ -9,7 +9,6 @@ use Rattle.refusal.specs.Cases.{Case, First}
 use Rattle.name_table.specs.Check.{Held, good, no_name, check_table}
 use Rattle.name_table.specs.Entries.{GoodTable}
 use Rattle.message.specs.declared.Question.{Question}
-use Rattle.message.specs.declared.QuestionRead.TheVariants.{Good}
 use Rattle.message.specs.Header.{header_of}
 use Rattle.message.specs.Question.{question_at}
 use Rattle.message.specs.Query.{query_with}
@@ -62,7 +61,7 @@ pub record PlainTick (h : Host) (table : List ℕ) (i time : ℕ) (out : List �
 -- The table is good, the question q stands after the datagram's header, and it asks for the k-th of the table's names.
 pub record ForName (a : Arrival) (names : List Held) (q : Question) (k : ℕ) : Type 0 where
   pub good_table : check_table a.table ≡ good names
-  pub question : question_at a.datagram 12 ≡ Good q
+  pub question : question_at a.datagram 12 ≡ Some q
   pub name : IsFor a names q k
 
 -- An accepted response with the question q, by the state of its name: the name is stopped or the response kept, as specs/States.antt says for a name that is

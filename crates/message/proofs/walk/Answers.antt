@@ -1,14 +1,21 @@
-use mathlib.Core.Path.{sym, ◌∙◌}
+use Rattle.std.proofs.Common.{ℕ, ◌-◌, sym, ap, ◌∙◌, arith}
+use Rattle.message.specs.Records.{walk_from}
 use Rattle.message.proofs.Records.{walk_on, walk_bad, walk_end}
 use Rattle.message.proofs.walk.Goals as goal
 
 pub returns-in_default : goal.returns-in_default
 returns-in_default c =
-    sym (c.loop-left.invariant ∙ walk_bad _ _ _ c.loop-left-test.true (sym c.read_record-read.ensures ∙ c.in_default.is))
+    let h = c.loop-test.true in
+    sym (c.loop.invariant ∙ walk_bad (c.args.count - c.loop.counter) _ _ (omega arith) (sym c.read_record.ensures ∙ c.in_default.is))
 
-pub loop-left-preserved : goal.loop-left-preserved
-loop-left-preserved c =
-    c.loop-left.invariant ∙ walk_on _ _ _ _ c.loop-left-test.true (sym c.read_record-read.ensures ∙ c.in-Good.is)
+pub loop-preserved : goal.loop-preserved
+loop-preserved c =
+    let h = c.loop-test.true in
+    c.loop.invariant
+    ∙ walk_on (c.args.count - c.loop.counter) _ _ _ (omega arith) (sym c.read_record.ensures ∙ c.in-Some.is)
+    ∙ ap (λ (k : ℕ). walk_from k c.args.s.now c.in-Some.record.next) (omega arith)
 
 pub returns : goal.returns
-returns c = sym (c.loop-left.invariant ∙ walk_end _ _ _ c.loop-left-test.false)
+returns c =
+    let h = c.loop-test.false in
+    sym (c.loop.invariant ∙ walk_end (c.args.count - c.loop.counter) _ _ (omega arith))

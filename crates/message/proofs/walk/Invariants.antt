@@ -1,9 +1,7 @@
-use mathlib.Core.Path.{◌≡◌}
+use Rattle.std.proofs.Common.{◌≡◌, ◌-◌}
 use Rattle.message.specs.Records.{walk_from}
 use Rattle.message.proofs.walk.Given as goal
 
-abbrev pub invariant-loop-left : goal.invariant-loop-left
-invariant-loop-left l = walk_from l.count l.s l.at ≡ walk_from l.left l.s l.p
-
-abbrev pub decreases-loop-left : goal.decreases-loop-left
-decreases-loop-left l = l.left
+-- the walk from here over the records that are left is the whole walk
+abbrev pub invariant-loop : goal.invariant-loop
+invariant-loop l = walk_from l.count l.s l.at ≡ walk_from (l.count - l.counter) l.s l.p

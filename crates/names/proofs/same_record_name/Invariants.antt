@@ -1,4 +1,4 @@
-use Prim.Native.Nat.{◌+◌}
+use Rattle.std.proofs.Common.{◌+◌}
 use Rattle.names.proofs.RecordNameWalk.{left}
 use Rattle.names.proofs.SideBySide.{Compared}
 use Rattle.names.proofs.same_record_name.Given as goal

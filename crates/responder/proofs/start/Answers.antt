@@ -1,9 +1,9 @@
-use Rattle.responder.proofs.ServedLaws.{sees, state_there, on_host}
+use Rattle.std.proofs.Common.{◌∙◌}
+use Rattle.responder.proofs.ServedLaws.{sees}
 use Rattle.responder.proofs.start.Goals as goal
 
-pub returns : goal.returns
-returns c =
-    let h = c.args.host in
-    let i = c.args.interface in
-    let p = c.slot-at.ensures.value in
-    on_host h i _ p c.start-a.result c.after.result _ c.after.ensures (c.start-a.ensures h (sees h i _ p) (state_there h i _ p _ _ c.name_at-n.ensures))
+pub returns-clause-done : goal.returns-clause-done
+returns-clause-done c =
+    let e = c.site-site.ensures in
+    let g = c.in_ok-served.ensures.gives c.args.host.now (sees _ _ _ e) (rw (c.state_at-state.ensures, c.slot.ensures.value, e)) in
+    c.take.ensures c.start.new.out ∙ rw e at g

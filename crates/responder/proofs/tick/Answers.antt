@@ -1,10 +1,9 @@
-use Rattle.responder.proofs.ServedLaws.{sees, state_there, on_host}
+use Rattle.std.proofs.Common.{◌∙◌}
+use Rattle.responder.proofs.ServedLaws.{sees}
 use Rattle.responder.proofs.tick.Goals as goal
 
-pub returns : goal.returns
-returns c =
-    let h = c.args.host in
-    let i = c.args.interface in
-    let p = c.slot-at.ensures.value in
-    on_host h i _ p c.tick-a.result c.after.result _ c.after.ensures
-    (c.tick-a.ensures h (sees h i _ p) (rw (← p) c.find_due-k.ensures) (state_there h i _ p _ _ c.name_at-n.ensures))
+pub returns-clause-done : goal.returns-clause-done
+returns-clause-done c =
+    let e = c.site-site.ensures in
+    let g = c.in_ok-served.ensures.gives c.args.host.now (sees _ _ _ e) (rw (c.find_due-due.ensures, c.slot.ensures.value, e)) in
+    c.take.ensures c.tick.new.out ∙ rw e at g

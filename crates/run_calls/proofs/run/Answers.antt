@@ -1,26 +1,29 @@
-use borrow.Author.Rules.{rules}
-use lib.ListN.{length}
-use Prim.Native.Nat.{◌+◌, ◌≤◌}
-use Rattle.run_calls.specs.Entries.{entry_head}
-use Rattle.run_calls.proofs.EntryLaws.{ends_in}
-use Rattle.run_calls.proofs.run.Given.{Over}
-use Rattle.run_calls.proofs.run.Goals.{In-Whole}
+use Rattle.std.proofs.Common.{rules, sym, ◌∙◌, ◌<◌, ◌≡◌, length}
+use Rattle.run_calls.proofs.RunLaws.{body_is, finished, ended, taken_so}
 use Rattle.run_calls.proofs.run.Goals as goal
 
--- the entry that was read ends in the file
-in_file : (g : Over) (c : In-Whole g)
-    → (entry_head ≤ c.in-Whole.e.len) × (c.loop-at.at + c.in-Whole.e.len ≤ length c.args.file.now)
-in_file g c =
-    ends_in c.args.file.now c.part-rest.result.now c.loop-at.at c.read-read.result c.in-Whole.e
-    c.loop-at-test.true c.part-rest.ensures c.read-read.ensures c.in-Whole.is
+pub returns-in-Err : goal.returns-in-Err
+returns-in-Err c =
+    let some : 0 < length c.loop-state.rest.now = search rules in
+    let read = sym c.read.ensures.value ∙ c.in-Err.is in
+    ended _ _ _ _ _ _ _ _ c.loop-state.invariant.counted c.loop-state.invariant.so_far
+    _ c.in-Err.why some read c.in_ok-put_end-in-Err.ensures
 
-pub overflow_add-at : goal.overflow_add-at
-overflow_add-at g c = let w = in_file g (goal.at.overflow_add-at g c).In-Whole in search rules
+pub loop-state-preserved : goal.loop-state-preserved
+loop-state-preserved c =
+    let some : 0 < length c.loop-state.rest.now = search rules in
+    let read = sym c.read.ensures.value ∙ c.in-Ok.is in
+    let i = c.loop-state.invariant in
+    let t = c.in_ok-take.ensures in
+    let s = c.split_at.ensures in
+    record {
+      counted = search rules;
+      so_far =
+          taken_so _ _ _ _ _ _ _ _ i.counted i.so_far _ c.in-Ok.entry _ _ _ _ _ some read
+          (body_is _ _ c.in-Ok.entry s.front) s.back t.table t.host t.lookups t.text;
+    }
 
-pub loop-at-smaller : goal.loop-at-smaller
-loop-at-smaller g c = let w = in_file g (goal.at.loop-at-smaller g c).In-Whole in search rules
-
-pub loop-at-preserved : goal.loop-at-preserved
-loop-at-preserved g c =
-    let w = in_file g (goal.at.loop-at-preserved g c).In-Whole in
-    (search rules, search rules, search rules, search rules)
+pub returns : goal.returns
+returns c =
+    let none : length c.loop-state.rest.now ≡ 0 = search rules in
+    finished _ _ _ _ _ _ _ _ c.loop-state.invariant.counted c.loop-state.invariant.so_far none

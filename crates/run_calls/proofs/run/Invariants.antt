@@ -1,11 +1,16 @@
-use lib.ListN.{length}
-use mathlib.Core.Path.{◌≡◌}
-use Prim.Native.Nat.{◌-◌, ◌≤◌}
+use Rattle.std.proofs.Common.{◌+◌, ◌-◌, ◌≤◌, ◌≡◌, ◌++◌, length, string_bytes}
+use Rattle.std.specs.List.{concat}
+use Rattle.run_calls.specs.Run.{lines_from, lines_of}
 use Rattle.run_calls.proofs.run.Given as goal
 
-abbrev pub invariant-loop-at : goal.invariant-loop-at
-invariant-loop-at g l =
-    (l.at ≤ length l.file) × (l.n ≤ l.at) × (length l.out ≡ length l.initial.out) × (length l.text ≡ length l.initial.text)
+abbrev pub invariant-loop-state : goal.invariant-loop-state
+invariant-loop-state l = record {
+  counted : l.n + length l.rest ≤ length l.file;
+  so_far : concat (lines_of l.file)
+      ≡ string_bytes l.text
+      ++ concat (lines_from (length l.file - l.n) (length l.file) l.n l.state.table.now l.state.host
+      l.state.lookups l.rest);
+}
 
-abbrev pub decreases-loop-at : goal.decreases-loop-at
-decreases-loop-at g l = length l.file - l.at
+abbrev pub decreases-loop-state : goal.decreases-loop-state
+decreases-loop-state l = length l.rest

@@ -1,13 +1,7 @@
 -- Five premises are needed: one interval, addresses that differ, a clock that never goes back, ticks that are not late, and starts of the
 -- name alone, one for each host. Without each of them a list of two hosts' calls ends with two owners, while all other conditions hold,
 -- all other rules are kept, and all that is sent is delivered.
-use Prim.Native.Nat.{ℕ, zero, suc, ◌+◌, ◌<◌}
-use mathlib.Core.Path.{◌≡◌, refl}
-use mathlib.Core.Logic.{◌≢◌, inl}
-use mathlib.Core.List.{List, [], ◌∷◌, ◌++◌}
-use mathlib.Core.Bool.{true, false, cond}
-use native.Mathlib.Omega.{arith}
-use lib.Dec.{eqb}
+use Rattle.std.proofs.Common.{ℕ, zero, suc, ◌+◌, ◌<◌, ◌≡◌, refl, ◌≢◌, inl, List, [], ◌∷◌, ◌++◌, true, false, cond, arith, eqb}
 use Rattle.octets.specs.Addresses.{same_address}
 use Rattle.name_table.specs.Check.{Held}
 use Rattle.host.specs.Bounds.{short, long}

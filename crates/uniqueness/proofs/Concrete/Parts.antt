@@ -1,15 +1,8 @@
 -- The parts of concrete links: labels, tables, stations, calls and probes; and what a station must compute to be on its link.
-use Prim.Native.Nat.{ℕ, ◌<◌, ◌≤◌}
-use mathlib.Core.Path.{◌≡◌, refl, sym, ◌∙◌, ap, subst}
-use mathlib.Core.Logic.{◌≢◌, dite}
-use mathlib.Core.List.{List, [], ◌∷◌, ◌++◌}
-use mathlib.Core.Bool.{Bool, true, false, cond}
-use native.Mathlib.Decide.{ℕ_discrete}
-use native.Mathlib.Omega.{arith}
-use lib.Dec.{ltb}
-use lib.ListN.{get_or, set, length, replicate, length-append, length-set, get_or-replicate}
-use lib.Seq.{get_or-set_same, get_or-set_other}
-use borrow.Author.Tests.{ltb-true}
+use Rattle.std.proofs.Common.{ℕ, ◌<◌, ◌≤◌, ◌≡◌, refl, sym, ◌∙◌, ap, subst, ◌≢◌, List, [], ◌∷◌, ◌++◌, Bool, true, false, cond, arith, ltb, get_or, set, length, replicate, length-append, length-set, get_or-set_same, get_or-set_other, ltb-true}
+use Rattle.std.proofs.lemmas.List.{get_or-replicate}
+use Rattle.std.proofs.Math.Logic.{dite}
+use Rattle.std.proofs.Math.Decide.{ℕ_discrete}
 use Rattle.octets.specs.Bounds.{ipv4, ipv6, used_by6, llmnr_port, interfaces}
 use Rattle.octets.specs.Octets.{Octets, part_of, splice, put}
 use Rattle.octets.specs.Addresses.{same_octets, below_octets, same_address, below_address, group_of, is_group, group_endpoint, has_address, ours_among, unused}

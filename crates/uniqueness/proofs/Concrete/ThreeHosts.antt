@@ -1,12 +1,6 @@
 -- Three hosts, with tables, spellings, interfaces and set-up times of their own, meet every condition of the order. A list of their calls
 -- keeps every rule, and ends with one owner, whose address is the lowest.
-use Prim.Native.Nat.{ℕ, zero, suc, ◌≤◌, ◌<◌}
-use mathlib.Core.Path.{◌≡◌, refl}
-use mathlib.Core.Logic.{◌≢◌, ◌⊎◌, inl, inr}
-use mathlib.Core.List.{List, [], ◌∷◌, ◌++◌}
-use mathlib.Core.Bool.{true, false, cond}
-use native.Mathlib.Omega.{arith}
-use lib.Dec.{eqb}
+use Rattle.std.proofs.Common.{ℕ, zero, suc, ◌≤◌, ◌<◌, ◌≡◌, refl, ◌≢◌, ◌⊎◌, inl, inr, List, [], ◌∷◌, ◌++◌, true, false, cond, arith, eqb}
 use Rattle.octets.specs.Addresses.{same_address}
 use Rattle.name_table.specs.Check.{Held}
 use Rattle.host.specs.Bounds.{short, latest as latest_time}

@@ -1,12 +1,5 @@
 -- Addresses as numbers: the order of octets, the first octet first, is that of the numbers, and equal numbers are equal addresses.
-use mathlib.Core.Path.{◌≡◌, refl, sym, ap}
-use mathlib.Core.Logic.{⊎_elim}
-use mathlib.Core.Bool.{true, false}
-use mathlib.Core.List.{List, [], ◌∷◌}
-use Prim.Native.Nat.{ℕ, zero, suc, ◌+◌, ◌*◌, ◌≤◌, ◌<◌}
-use native.Mathlib.Omega.{arith}
-use native.Mathlib.Nat.{suc-mul, mul-le-mul_right}
-use lib.ListN.{length, length-take}
+use Rattle.std.proofs.Common.{◌≡◌, refl, sym, ap, ⊎_elim, true, false, List, [], ◌∷◌, ℕ, zero, suc, ◌+◌, ◌*◌, ◌≤◌, ◌<◌, arith, suc-mul, mul-le-mul_right, length, length-take}
 use Rattle.octets.specs.Octets.{Octets}
 use Rattle.octets.specs.declared.Address.{Address}
 use Rattle.octets.specs.Addresses.{used_by, used_octets, below_octets, same_address, below_address}

@@ -1,11 +1,5 @@
 -- What a probe observes of a host whose state stands for a claim: 12 if off, T set if verifying, T clear if unique, 13 if stopped.
-use mathlib.Core.Path.{◌≡◌, refl, sym, ◌∙◌, ap, subst}
-use mathlib.Core.Bool.{Bool, true, false, cond}
-use mathlib.Core.List.{List, []}
-use Prim.Native.Nat.{ℕ, ◌%◌, ◌≤◌, ◌<◌}
-use native.Mathlib.Omega.{arith}
-use lib.ListN.{get_or, take}
-use lib.Dec.{eqb}
+use Rattle.std.proofs.Common.{◌≡◌, refl, sym, ◌∙◌, ap, subst, Bool, true, false, cond, List, [], ℕ, ◌%◌, ◌≤◌, ◌<◌, arith, get_or, take, eqb}
 use Rattle.octets.specs.declared.Endpoint.{Endpoint}
 use Rattle.host.specs.declared.Host.{Host}
 use Rattle.host.specs.Outcomes.{Done, CallResult, reply as Reply}

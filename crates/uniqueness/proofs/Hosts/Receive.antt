@@ -1,13 +1,7 @@
 -- Receive, as the simulation asks for it, from the obligations: a query is answered as the receiver's claim says; a reply to the host's own
 -- query stops it if it is clear or from a lower address, and a reply to a host that does not verify changes nothing.
-use mathlib.Core.Path.{◌≡◌, refl, sym, ◌∙◌, ap, subst}
-use mathlib.Core.Logic.{◌≢◌}
-use mathlib.Core.Bool.{Bool, true, false}
-use mathlib.Core.List.{List}
-use Prim.Native.Nat.{ℕ, ◌≤◌, ◌<◌}
-use native.Mathlib.Decide.{dec_lt}
-use native.Mathlib.Omega.{arith}
-use lib.ListN.{length}
+use Rattle.std.proofs.Common.{◌≡◌, refl, sym, ◌∙◌, ap, subst, ◌≢◌, Bool, true, false, List, ℕ, ◌≤◌, ◌<◌, arith, length}
+use Rattle.std.proofs.Math.Decide.{dec_lt}
 use Rattle.octets.specs.declared.Address.{Address}
 use Rattle.octets.specs.declared.Endpoint.{Endpoint}
 use Rattle.octets.specs.Addresses.{below_address, group_of}

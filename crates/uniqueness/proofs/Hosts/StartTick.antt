@@ -1,11 +1,8 @@
 -- Start and tick, as the simulation asks for them, from the obligations: first what each form of the obligations (Asked, RefusedWith, Taken)
 -- says of states and outputs, then the two calls, on the used interface and on another.
-use mathlib.Core.Path.{◌≡◌, refl, sym, ◌∙◌, ap, subst}
-use mathlib.Core.Logic.{◌≢◌, dite}
-use mathlib.Core.Bool.{true, false, not}
-use Prim.Native.Nat.{ℕ, suc, ◌+◌, ◌≤◌, ◌<◌}
-use native.Mathlib.Decide.{ℕ_discrete, dec_lt}
-use native.Mathlib.Omega.{arith}
+use Rattle.std.proofs.Common.{◌≡◌, refl, sym, ◌∙◌, ap, subst, ◌≢◌, true, false, not, ℕ, suc, ◌+◌, ◌≤◌, ◌<◌, arith}
+use Rattle.std.proofs.Math.Logic.{dite}
+use Rattle.std.proofs.Math.Decide.{ℕ_discrete, dec_lt}
 use Rattle.octets.specs.declared.Endpoint.{Endpoint}
 use Rattle.octets.proofs.Tests.{never}
 use Rattle.host.specs.Bounds.{sends_in_all, latest as latest_time}

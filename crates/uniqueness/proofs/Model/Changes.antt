@@ -1,10 +1,6 @@
 -- What one event does to the claims is one of four things: nothing; a host becomes unique; a host sends its query and loses; a host sends
 -- its query and goes on verifying.
-use mathlib.Core.Path.{◌≡◌, refl}
-use mathlib.Core.Logic.{◌≢◌}
-use mathlib.Core.List.{List}
-use Prim.Native.Nat.{ℕ, suc, ◌+◌, ◌≤◌, ◌<◌}
-use native.Mathlib.Omega.{arith}
+use Rattle.std.proofs.Common.{◌≡◌, refl, ◌≢◌, List, ℕ, suc, ◌+◌, ◌≤◌, ◌<◌, arith}
 use Rattle.host.specs.Bounds.{sends_in_all}
 use Rattle.uniqueness.proofs.Model.{Claim, off, verifying, unique, stopped, LinkModel, Put, Send, World, Event, time, host, OnTime, Act, begin, again, won, unchanged, Step}
 use Rattle.uniqueness.proofs.Model.Deliveries.{Beats, Sent, sent, sent_else}

@@ -1,15 +1,10 @@
 -- What is left of a host's claim once its query and the replies to it are delivered, whatever the order: the asker has stopped if some host
 -- beats it, else it goes on verifying; and nobody else's claim changes. A message is a hit if it stops the asker or calls forth one
 -- that does; taking one message out of the list for those that it calls forth keeps whether there is a hit.
-use mathlib.Core.Path.{◌≡◌, refl, sym, ◌∙◌, ap, subst}
-use mathlib.Core.Logic.{◌≢◌, ◌⊎◌, inl, inr}
-use mathlib.Core.Bool.{Bool, true, false}
+use Rattle.std.proofs.Common.{◌≡◌, refl, sym, ◌∙◌, ap, subst, ◌≢◌, ◌⊎◌, inl, inr, Bool, true, false, List, [], ◌∷◌, ◌++◌, ℕ, zero, suc, ◌<◌, arith, le_of_suc-le-suc, eq-or-lt_of_le}
+use mathlib.Core.List.{Memᴰ}
+use Rattle.std.proofs.Math.Decide.{ℕ_discrete, dec_lt}
 use mathlib.Core.List.Memᴰ
-use mathlib.Core.List.{List, [], ◌∷◌, ◌++◌, Memᴰ}
-use Prim.Native.Nat.{ℕ, zero, suc, ◌<◌}
-use native.Mathlib.Decide.{ℕ_discrete, dec_lt}
-use native.Mathlib.Omega.{arith}
-use native.Mathlib.Nat.{le_of_suc-le-suc, eq-or-lt_of_le}
 use Rattle.uniqueness.proofs.Model.{Claim, off, verifying, unique, stopped, LinkModel, Message, query, reply, answer, after_reply, yield, Delivery, done, asked, taken_in, queries, unless, Send, send, clash}
 
 -- host k's answer stops the asker a

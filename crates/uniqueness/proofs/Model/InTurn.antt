@@ -1,10 +1,8 @@
 -- Where w starts first, and each other host once the one before does not verify, w ends as the owner. Such a list has three phases: nobody
 -- has started; w verifies alone; w owns the name and whoever starts then stops at once.
-use mathlib.Core.Path.{◌≡◌, refl, ◌∙◌}
-use mathlib.Core.Logic.{◌≢◌, ◌⊎◌, inl, inr, dite}
-use mathlib.Core.List.{List, [], ◌∷◌}
-use Prim.Native.Nat.{ℕ, suc, ◌+◌, ◌<◌}
-use native.Mathlib.Decide.{ℕ_discrete}
+use Rattle.std.proofs.Common.{◌≡◌, refl, ◌∙◌, ◌≢◌, ◌⊎◌, inl, inr, List, [], ◌∷◌, ℕ, suc, ◌+◌, ◌<◌}
+use Rattle.std.proofs.Math.Logic.{dite}
+use Rattle.std.proofs.Math.Decide.{ℕ_discrete}
 use Rattle.uniqueness.proofs.Model.{Claim, off, verifying, unique, stopped, LinkModel, Put, Send, World, Event, host, Act, begin, again, won, unchanged, Run, stay, then, Fresh, Settled, Owns, OneByOne, clash}
 use Rattle.uniqueness.proofs.Model.Deliveries.{Beats, by_unique, by_lower, Sent, sent, sent_else}
 

@@ -2,13 +2,9 @@
 -- came before a's start, or a would have stopped b. So never do two verifying hosts both have three sends; with a unique host about,
 -- whoever verifies has at most two sends and stops at its next query; and the lowest address stops only for a unique host.
 -- Each of the four changes keeps it.
-use mathlib.Core.Path.{◌≡◌, sym, ◌∙◌, ap}
-use mathlib.Core.Logic.{◌≢◌, dite}
-use mathlib.Core.List.{List}
-use Prim.Native.Nat.{ℕ, suc, ◌+◌, ◌*◌, ◌≤◌, ◌<◌}
-use native.Mathlib.Decide.{ℕ_discrete, dec_lt}
-use native.Mathlib.Omega.{arith}
-use native.Mathlib.Nat.{le_of_mul-le-mul_right, mul-le-mul_right}
+use Rattle.std.proofs.Common.{◌≡◌, sym, ◌∙◌, ap, ◌≢◌, List, ℕ, suc, ◌+◌, ◌*◌, ◌≤◌, ◌<◌, arith, le_of_mul-le-mul_right, mul-le-mul_right}
+use Rattle.std.proofs.Math.Logic.{dite}
+use Rattle.std.proofs.Math.Decide.{ℕ_discrete, dec_lt}
 use Rattle.host.specs.Bounds.{sends_in_all}
 use Rattle.uniqueness.proofs.Model.{Claim, verifying, unique, stopped, LinkModel, Put, World, Event, time, Step, Run, stay, then, Fresh, clash}
 use Rattle.uniqueness.proofs.Model.Deliveries.{Beats, by_unique, by_lower}

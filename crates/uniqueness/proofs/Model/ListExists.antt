@@ -1,12 +1,8 @@
 -- A list that starts w first and each other host in turn exists: w starts and ticks when due until it is unique, then the others start one
 -- by one. It takes three intervals, and so ends no later than any list that ends with an owner. Every delivery can be made to its end.
-use mathlib.Core.Path.{◌≡◌, refl, sym, ◌∙◌, ap}
-use mathlib.Core.Logic.{◌≢◌, inl, dite}
-use mathlib.Core.Bool.{Bool, true, false}
-use mathlib.Core.List.{List, [], ◌∷◌, ◌++◌}
-use Prim.Native.Nat.{ℕ, zero, suc, ◌+◌, ◌≤◌, ◌<◌}
-use native.Mathlib.Decide.{ℕ_discrete}
-use native.Mathlib.Omega.{arith}
+use Rattle.std.proofs.Common.{◌≡◌, refl, sym, ◌∙◌, ap, ◌≢◌, inl, Bool, true, false, List, [], ◌∷◌, ◌++◌, ℕ, zero, suc, ◌+◌, ◌≤◌, ◌<◌, arith}
+use Rattle.std.proofs.Math.Logic.{dite}
+use Rattle.std.proofs.Math.Decide.{ℕ_discrete}
 use Rattle.host.specs.Bounds.{sends_in_all}
 use Rattle.uniqueness.specs.Link.{update}
 use Rattle.uniqueness.proofs.Model.{Claim, off, verifying, unique, stopped, LinkModel, Message, query, reply, answer, after_reply, Delivery, done, asked, taken_in, queries, updated, Send, send, World, Event, start, tick, OnTime, begin, again, won, Step, Run, stay, then, Fresh, Settled, Owns, OneByOne, clash}

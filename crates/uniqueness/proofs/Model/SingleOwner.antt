@@ -1,11 +1,8 @@
 -- After any list of events, once all are started and none verifies, exactly one host owns the name: each is unique or stopped, two are not
 -- unique, and if the lowest has stopped there is a unique one.
-use mathlib.Core.Path.{◌≡◌, refl, ap}
-use mathlib.Core.Logic.{◌≢◌, ◌⊎◌, inl, inr, dite}
-use mathlib.Core.List.{List}
-use Prim.Native.Nat.{ℕ, zero, suc, ◌≤◌, ◌<◌}
-use native.Mathlib.Decide.{ℕ_discrete, dec_lt}
-use native.Mathlib.Omega.{arith}
+use Rattle.std.proofs.Common.{◌≡◌, refl, ap, ◌≢◌, ◌⊎◌, inl, inr, List, ℕ, zero, suc, ◌≤◌, ◌<◌, arith}
+use Rattle.std.proofs.Math.Logic.{dite}
+use Rattle.std.proofs.Math.Decide.{ℕ_discrete, dec_lt}
 use Rattle.uniqueness.proofs.Model.{Claim, off, verifying, unique, stopped, LinkModel, World, Event, Run, Fresh, Settled, OneOwner}
 use Rattle.uniqueness.proofs.Model.Invariant.{Invariant, invariant_run, invariant_fresh}
 

@@ -1,17 +1,11 @@
 -- What is read of a start's query, and of a reply to it.
-use Prim.Native.Nat.{ℕ, ◌+◌, ◌%◌, ◌≤◌, ◌<◌}
-use mathlib.Core.Path.{◌≡◌, sym, subst}
-use mathlib.Core.Bool.{Bool, false, cond}
-use mathlib.Core.List.{List}
-use native.Mathlib.Omega.{arith}
-use lib.ListN.{get_or, length}
+use Rattle.std.proofs.Common.{Some, ℕ, ◌+◌, ◌%◌, ◌≤◌, ◌<◌, ◌≡◌, sym, subst, Bool, false, cond, List, arith, get_or, length}
 use Rattle.octets.specs.Octets.{Octets, octet_at, part_of}
 use Rattle.names.specs.Names.{encode}
 use Rattle.names.specs.NameWalk.{labels_of, name_at}
 use Rattle.message.specs.Bounds.{header_octets, class_in, type_any}
 use Rattle.message.specs.declared.Header.{Header}
 use Rattle.message.specs.declared.Question.{Question}
-use Rattle.message.specs.declared.QuestionRead.TheVariants.{Good}
 use Rattle.message.specs.Header.{header_of}
 use Rattle.message.specs.Question.{question_at, question_octets}
 use Rattle.message.specs.Reply.{reply_header}
@@ -33,7 +27,7 @@ pub record Reading (b y : List ℕ) (x : Header) : Type 0 where
   pub shortest : header_octets ≤ length b
   pub longest : length b ≤ longest
   pub header : header_of b ≡ x
-  pub question : question_at b header_octets ≡ Good (asks y)
+  pub question : question_at b header_octets ≡ Some (asks y)
   pub name : part_of b header_octets (header_octets + length y) ≡ y
 
 -- b is a reply to a start's query with this ID for the name y, with T set or clear

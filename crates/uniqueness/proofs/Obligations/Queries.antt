@@ -1,12 +1,6 @@
 -- Obligations of a station: receive, of a start's query. Each follows from one law of receive: its conditions are met, and it says all that
 -- is given.
-use Prim.Native.Nat.{ℕ, ◌≤◌, ◌<◌}
-use mathlib.Core.Path.{◌≡◌, refl, sym, ◌∙◌, ap}
-use mathlib.Core.Bool.{Bool, true, false, cond}
-use mathlib.Core.Logic.{◌≢◌, inl, inr}
-use mathlib.Core.List.{List}
-use native.Mathlib.Omega.{arith}
-use lib.ListN.{length}
+use Rattle.std.proofs.Common.{ℕ, ◌≤◌, ◌<◌, ◌≡◌, refl, sym, ◌∙◌, ap, Bool, true, false, cond, ◌≢◌, inl, inr, List, arith, length}
 use Rattle.octets.specs.Bounds.{used_by6}
 use Rattle.octets.specs.Octets.{Octets}
 use Rattle.octets.specs.declared.Address.{Address}

@@ -1,10 +1,5 @@
 -- Obligations of a station: receive, of a reply to its query. Each follows from one law of receive, as in file Queries.
-use Prim.Native.Nat.{ℕ, ◌≤◌, ◌<◌}
-use mathlib.Core.Path.{◌≡◌, refl, sym, ◌∙◌, ap, subst}
-use mathlib.Core.Bool.{Bool, true, false}
-use mathlib.Core.Logic.{inl, inr, ⊎_elim}
-use mathlib.Core.List.{List}
-use lib.ListN.{length}
+use Rattle.std.proofs.Common.{ℕ, ◌≤◌, ◌<◌, ◌≡◌, refl, sym, ◌∙◌, ap, subst, Bool, true, false, inl, inr, ⊎_elim, List, length}
 use Rattle.octets.specs.Bounds.{used_by6}
 use Rattle.octets.specs.Octets.{Octets}
 use Rattle.octets.specs.Addresses.{same_address, below_address}

@@ -1,18 +1,12 @@
 -- What the conditions say of a station: its table and its name, from the laws of tables; its settings, from the law of a set-up that is
 -- ready.
-use Prim.Native.Nat.{ℕ, ◌≤◌, ◌<◌}
-use mathlib.Core.Path.{◌≡◌, sym, ◌∙◌, ap, subst}
-use mathlib.Core.Bool.{false}
-use mathlib.Core.Logic.{◌⊎◌, ⊎_elim}
-use mathlib.Core.List.{List}
-use native.Mathlib.Omega.{arith}
+use Rattle.std.proofs.Common.{Some, ℕ, ◌≤◌, ◌<◌, ◌≡◌, sym, ◌∙◌, ap, subst, false, ◌⊎◌, ⊎_elim, List, arith}
 use Rattle.octets.specs.Bounds.{ipv4, ipv6}
 use Rattle.octets.specs.Addresses.{is_group}
 use Rattle.names.proofs.Names.{same_labels}
 use Rattle.names.specs.Folding.{folded_name}
 use Rattle.name_table.specs.Bounds.{most_names}
 use Rattle.name_table.specs.Check.{Held, find_name}
-use Rattle.name_table.specs.declared.Found.TheVariants.{At}
 use Rattle.name_table.proofs.Held.{few_held, found_by}
 use Rattle.host.specs.Bounds.{short, long}
 use Rattle.host.specs.State.{interval_of}
@@ -33,7 +27,7 @@ module _ (L : Link) (s : Station) (o : OnLink L s) where
   few_is = omega (arith, few_held s.table held o.table_fits o.unique.read, o.unique.inside)
 
   -- the name is found by every spelling of it
-  pub finds_it : (y : List ℕ) → SameName y L.name → find_name held y ≡ At s.name
+  pub finds_it : (y : List ℕ) → SameName y L.name → find_name held y ≡ Some s.name
   finds_it y w =
       let p : o.same.second ≡ w.second =
       same_labels _ _ o.same.second_name.labels w.second_name.labels (sym o.same.second_octets ∙ w.second_octets) in

@@ -1,12 +1,10 @@
 -- When a world of the hosts agrees with one of the model, and what follows: each host is observed as its claim says; the rules for starts and
 -- the end of a list mean the same on both sides; fresh hosts agree with the fresh model.
-use mathlib.Core.Path.{◌≡◌, refl, sym, ◌∙◌, ap}
-use mathlib.Core.Logic.{◌≢◌, ◌⊎◌, inl, inr, dite}
+use Rattle.std.proofs.Common.{◌≡◌, refl, sym, ◌∙◌, ap, ◌≢◌, ◌⊎◌, inl, inr, List, ◌∷◌, ℕ, ◌+◌, ◌≤◌, ◌<◌, arith}
+use Rattle.std.proofs.Math.Logic.{dite}
+use mathlib.Core.List.{Memᴰ}
+use Rattle.std.proofs.Math.Decide.{ℕ_discrete}
 use mathlib.Core.List.Memᴰ
-use mathlib.Core.List.{List, ◌∷◌, Memᴰ}
-use Prim.Native.Nat.{ℕ, ◌+◌, ◌≤◌, ◌<◌}
-use native.Mathlib.Decide.{ℕ_discrete}
-use native.Mathlib.Omega.{arith}
 use Rattle.uniqueness.proofs.Model.{Claim, off, verifying, unique, stopped, LinkModel, Put, Send, World, set_up_at, Settled, OneByOne, clash}
 use Rattle.uniqueness.proofs.Model.Deliveries.{Sent, sent, sent_else}
 use Rattle.uniqueness.proofs.Simulation.{HostWorld, Kind, is_off, is_verifying, kind, System, HostsSettled, HostsOneByOne, HostsFresh, Simulates}

@@ -1,13 +1,10 @@
 -- A delivery of packets between hosts is a delivery of the model's messages, and the other way round: packet by packet, while the states
 -- stand for the claims and the asker's tag is that of its query.
-use mathlib.Core.Path.{◌≡◌, refl, sym, ◌∙◌, ap}
-use mathlib.Core.Logic.{◌≢◌, dite}
-use mathlib.Core.Bool.{Bool, true, false}
+use Rattle.std.proofs.Common.{◌≡◌, refl, sym, ◌∙◌, ap, ◌≢◌, Bool, true, false, List, [], ◌∷◌, ◌++◌, ℕ, zero, suc, ◌≤◌, ◌<◌, arith}
+use Rattle.std.proofs.Math.Logic.{dite}
+use mathlib.Core.List.{Forall₂}
+use Rattle.std.proofs.Math.Decide.{ℕ_discrete}
 use mathlib.Core.List.Forall₂
-use mathlib.Core.List.{List, [], ◌∷◌, ◌++◌, Forall₂}
-use Prim.Native.Nat.{ℕ, zero, suc, ◌≤◌, ◌<◌}
-use native.Mathlib.Decide.{ℕ_discrete}
-use native.Mathlib.Omega.{arith}
 use mathlib.Mathlib.Data.List.Forall2
 use Rattle.uniqueness.specs.Link.{update}
 use Rattle.uniqueness.proofs.Model.{Claim, off, verifying, unique, stopped, Message, query, reply, answer, after_reply, Delivery, asked, taken_in, queries, Put, put_same, updated, clash}

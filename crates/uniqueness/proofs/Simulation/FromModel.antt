@@ -1,10 +1,8 @@
 -- For a list of the model's events there is a list of the hosts' calls. An event that changes nothing needs no call.
-use mathlib.Core.Path.{◌≡◌, refl, sym, ◌∙◌, ap}
-use mathlib.Core.Logic.{dite}
-use mathlib.Core.List.{List, [], ◌∷◌, ◌++◌, Memᴰ}
-use Prim.Native.Nat.{ℕ, suc, ◌+◌, ◌≤◌, ◌<◌}
-use native.Mathlib.Decide.{ℕ_discrete}
-use native.Mathlib.Omega.{arith}
+use Rattle.std.proofs.Common.{◌≡◌, refl, sym, ◌∙◌, ap, List, [], ◌∷◌, ◌++◌, ℕ, suc, ◌+◌, ◌≤◌, ◌<◌, arith}
+use Rattle.std.proofs.Math.Logic.{dite}
+use mathlib.Core.List.{Memᴰ}
+use Rattle.std.proofs.Math.Decide.{ℕ_discrete}
 use Rattle.uniqueness.specs.Link.{update}
 use Rattle.uniqueness.proofs.Model.{Claim, off, verifying, unique, Put, updated, Send, send, World, Event, start, tick, time, host, OnTime, Act, begin, again, won, Run, clash}
 use Rattle.uniqueness.proofs.Model.ListExists.{times}

@@ -1,10 +1,7 @@
 -- What the theorem uses of the simulation: after a list of the hosts' calls from set-up there is a run of the model that they stand for, and
 -- every further call can be made and delivered; and for a run of the model in turn there is a list of the hosts' calls in turn.
-use mathlib.Core.Path.{◌≡◌, refl, ap}
-use mathlib.Core.Bool.{Bool, true, false}
-use mathlib.Core.List.{List, Memᴰ}
-use Prim.Native.Nat.{ℕ, suc, ◌+◌, ◌≤◌, ◌<◌}
-use native.Mathlib.Omega.{arith}
+use Rattle.std.proofs.Common.{◌≡◌, refl, ap, Bool, true, false, List, ℕ, suc, ◌+◌, ◌≤◌, ◌<◌, arith}
+use mathlib.Core.List.{Memᴰ}
 use Rattle.uniqueness.proofs.Model.{Claim, off, verifying, Put, Send, send, World, set_up_at, Event, start, tick, time, host, Run, Settled, AnyOrder, OneByOne}
 use Rattle.uniqueness.proofs.Model.ListExists.{can_send}
 use Rattle.uniqueness.proofs.Simulation.{nothing, Outcome, broadcast, HostDelivery, HostWorld, result, System, Delivers, HostRun, HostsSettled, HostsAnyOrder, HostsOneByOne, HostsFresh, AsksAs, Ticked, Simulates}

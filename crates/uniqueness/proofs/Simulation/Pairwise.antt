@@ -1,6 +1,6 @@
 -- Two lists that agree place by place (mathlib's Forall₂): cutting one at a place cuts the other.
-use mathlib.Core.Path.{◌≡◌, refl, ◌∙◌, ap}
-use mathlib.Core.List.{List, [], ◌∷◌, ◌++◌, Forall₂}
+use Rattle.std.proofs.Common.{◌≡◌, refl, ◌∙◌, ap, List, [], ◌∷◌, ◌++◌}
+use mathlib.Core.List.{Forall₂}
 use mathlib.Mathlib.Data.List.Forall2.{rel-append}
 use Rattle.uniqueness.proofs.Model.{unless}
 

@@ -1,11 +1,7 @@
 -- A step of the hosts is a step of the model, and a list of their calls a list of the model's events.
-use mathlib.Core.Path.{◌≡◌, refl, sym, ◌∙◌, ap}
-use mathlib.Core.Logic.{dite}
-use mathlib.Core.Bool.{Bool, true, false}
-use mathlib.Core.List.{List, ◌∷◌}
-use Prim.Native.Nat.{ℕ, suc, ◌+◌, ◌<◌}
-use native.Mathlib.Decide.{ℕ_discrete}
-use native.Mathlib.Omega.{arith}
+use Rattle.std.proofs.Common.{◌≡◌, refl, sym, ◌∙◌, ap, Bool, true, false, List, ◌∷◌, ℕ, suc, ◌+◌, ◌<◌, arith}
+use Rattle.std.proofs.Math.Logic.{dite}
+use Rattle.std.proofs.Math.Decide.{ℕ_discrete}
 use Rattle.uniqueness.specs.Link.{update}
 use Rattle.uniqueness.proofs.Model.{Claim, off, verifying, unique, queries, put_same, updated, Send, send, World, Event, start, tick, time, host, OnTime, Act, begin, again, won, Step, Run, clash}
 use Rattle.uniqueness.proofs.Simulation.{nothing, Outcome, broadcast, packets, HostDelivery, HostWorld, result, System, Starts, HostStep, HostRun, AsksAs, QuietAs, Ticked, Simulates}

@@ -1,9 +1,6 @@
 -- The third part: on every link each host can be the owner, where three intervals are left of the clock's range. And the three parts together:
 -- the claim follows from the obligations.
-use mathlib.Core.Bool.{Bool, true, false}
-use mathlib.Core.List.{List}
-use Prim.Native.Nat.{ℕ, ◌+◌, ◌≤◌, ◌<◌}
-use native.Mathlib.Omega.{arith}
+use Rattle.std.proofs.Common.{Bool, true, false, List, ℕ, ◌+◌, ◌≤◌, ◌<◌, arith}
 use Rattle.host.specs.Bounds.{latest as latest_time}
 use Rattle.uniqueness.specs.Link as Spec
 use Rattle.uniqueness.specs.Link.{sort_of, Link, latest, Call, Request, starts, ticks, Moment, is_refused, StartRule, Settled, OneByOne, AnyOrder, Conditions, EveryProbe, SomeProbe, first, Owned, Demand3}

@@ -1,13 +1,9 @@
 -- The statement's datagrams are the simulation's packets, and its deliveries those of the simulation.
-use mathlib.Core.Path.{◌≡◌, refl, sym, subst}
-use mathlib.Core.Bool.{cond, not}
+use Rattle.std.proofs.Common.{◌≡◌, refl, sym, subst, cond, not, List, [], ◌∷◌, ◌++◌, map, ℕ, zero, suc, eqb, eq-eqb, ne_eqb}
+use mathlib.Core.List.{Forall₂}
+use Rattle.std.proofs.Math.Decide.{ℕ_discrete}
 use mathlib.Core.List.Forall₂
-use mathlib.Core.List.{List, [], ◌∷◌, ◌++◌, map, Forall₂}
 use mathlib.Mathlib.Data.List.Forall2
-use Prim.Native.Nat.{ℕ, zero, suc}
-use native.Mathlib.Decide.{ℕ_discrete}
-use lib.Dec.{eqb}
-use borrow.Author.Tests.{eq-eqb, ne_eqb}
 use Rattle.host.specs.declared.Host.{Host}
 use Rattle.host.specs.Outcomes.{Done}
 use Rattle.uniqueness.specs.Link as Spec

@@ -1,8 +1,6 @@
 -- The second part: after every list a call that keeps the rules can be made, and all that it sends delivered.
-use mathlib.Core.Path.{◌≡◌, refl}
-use mathlib.Core.Bool.{Bool, true, false, not}
-use mathlib.Core.List.{List, Memᴰ}
-use Prim.Native.Nat.{ℕ}
+use Rattle.std.proofs.Common.{◌≡◌, refl, Bool, true, false, not, List, ℕ}
+use mathlib.Core.List.{Memᴰ}
 use Rattle.octets.proofs.Tests.{never}
 use Rattle.host.specs.declared.Host.{Host}
 use Rattle.uniqueness.specs.Link as Spec

@@ -1,8 +1,6 @@
 -- A list of calls as the statement has it is a run of the simulation's hosts, and the other way round.
-use mathlib.Core.Path.{◌≡◌, refl, sym, ◌∙◌, subst, fun_ext}
-use mathlib.Core.Bool.{Bool, true, false, cond, not}
-use mathlib.Core.List.{List, [], ◌∷◌}
-use Prim.Native.Nat.{ℕ, ◌+◌, ◌≤◌, ◌<◌}
+use Rattle.std.proofs.Common.{◌≡◌, refl, sym, ◌∙◌, subst, Bool, true, false, cond, not, List, [], ◌∷◌, ℕ, ◌+◌, ◌≤◌, ◌<◌}
+use Rattle.std.proofs.Math.Path.{fun_ext}
 use Rattle.host.specs.Bounds.{latest as latest_time}
 use Rattle.host.specs.declared.Host.{Host}
 use Rattle.host.specs.Outcomes.{Done}

@@ -1,11 +1,8 @@
 -- The first part: once all are started and none verifies, exactly one host owns the name; a list that starts the owner first tells the same
 -- of each host, and such a list exists.
-use mathlib.Core.Path.{◌≡◌, sym, ◌∙◌, ap}
-use mathlib.Core.Logic.{dite}
-use mathlib.Core.List.{List}
-use Prim.Native.Nat.{ℕ, ◌≤◌, ◌<◌}
-use native.Mathlib.Decide.{ℕ_discrete}
-use native.Mathlib.Omega.{arith}
+use Rattle.std.proofs.Common.{◌≡◌, sym, ◌∙◌, ap, List, ℕ, ◌≤◌, ◌<◌, arith}
+use Rattle.std.proofs.Math.Logic.{dite}
+use Rattle.std.proofs.Math.Decide.{ℕ_discrete}
 use Rattle.uniqueness.specs.Link as Spec
 use Rattle.uniqueness.specs.Link.{Link, Call, Moment, owning, Settled, OneByOne, AnyOrder, Conditions, Probe, observed, EveryProbe, SomeProbe, first, OneOwner}
 use Rattle.uniqueness.proofs.Model as Model

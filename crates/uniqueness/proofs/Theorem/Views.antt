@@ -1,11 +1,9 @@
 -- The two ways in which the statement observes hosts: as every probe tells, and as some probe does. Either way the hosts simulate the model,
 -- and fresh from set-up they stand for the fresh model.
-use mathlib.Core.Path.{◌≡◌, refl, sym, ◌∙◌, subst}
-use mathlib.Core.Logic.{◌≢◌, dite}
-use Prim.Native.Nat.{ℕ, zero, suc, ◌≤◌, ◌<◌, max}
-use native.Mathlib.Decide.{ℕ_discrete}
-use native.Mathlib.Omega.{arith}
-use native.Mathlib.Nat.{le-max_left, le-max_right}
+use Rattle.std.proofs.Common.{◌≡◌, refl, sym, ◌∙◌, subst, ◌≢◌, ℕ, zero, suc, ◌≤◌, ◌<◌, max, arith}
+use Rattle.std.proofs.Math.Logic.{dite}
+use Rattle.std.proofs.Math.Decide.{ℕ_discrete}
+use Rattle.std.proofs.Math.Nat.{le-max_left, le-max_right}
 use Rattle.host.specs.Bounds.{latest as latest_time}
 use Rattle.host.specs.declared.Host.{Host}
 use Rattle.uniqueness.specs.Link as Spec

@@ -1,8 +1,5 @@
 use Rattle.name_table.specs.Records.{records_under, records_of}
-use mathlib.Core.Path.{◌≡◌}
-use mathlib.Core.List.{List}
-use lib.ListN.{length}
-use Prim.Native.Nat.{ℕ, ◌+◌, ◌-◌, ◌≤◌}
+use Rattle.std.proofs.Common.{◌≡◌, List, length, ℕ, ◌+◌, ◌-◌, ◌≤◌}
 use Rattle.name_table.proofs.resources.count_records.Given as goal
 
 -- the records so far, and those that are left under some mask
@@ -11,8 +8,8 @@ pub record Counted (table : List ℕ) (at n p : ℕ) : Type 0 where
   pub few : n ≤ p
   pub all : length (records_of table at) ≡ n + length (records_under table mask p)
 
-abbrev pub invariant-loop-r : goal.invariant-loop-r
-invariant-loop-r l = Counted l.table l.at l.n l.p
+abbrev pub invariant-loop-record : goal.invariant-loop-record
+invariant-loop-record l = Counted l.table l.at l.n l.p
 
-abbrev pub decreases-loop-r : goal.decreases-loop-r
-decreases-loop-r l = length l.table - l.p
+abbrev pub decreases-loop-record : goal.decreases-loop-record
+decreases-loop-record l = length l.table - l.p
