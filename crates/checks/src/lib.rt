@@ -26,7 +26,8 @@ pub fn slot(interface: usize) -> usize
     }
 }
 
-/// Whether there is no interface with this number, or its family says that it is unused.
+/// Whether there is no interface with this number, or its family, the number of an Address, says
+/// that it is unused.
 pub fn is_unused(interface: usize, family: u8) -> bool
     ensures { result ≡ no_interface interface family }
 {
@@ -51,6 +52,7 @@ fn read_header(datagram: &[u8]) -> Option<Header>
     message::read_header(datagram)
 }
 
+// Families are the numbers of Addresses.
 // Whether the addresses are of another family than the interface, or a query did not go to the group, or a response did.
 fn bad_address(family: u8, source: u8, to: Address, response: bool) -> bool
     ensures { result ≡ bad_address family source to response }

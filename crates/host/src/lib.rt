@@ -35,7 +35,7 @@ impl Timer {
     pub fn interval(setting: Setting) -> u64
         ensures { result ≡ interval_of setting }
     {
-        match setting.interval as u64 {
+        match u64::from(setting.interval) {
             Timer::SHORT => Timer::SHORT,
             _ => Timer::LONG,
         }
@@ -138,13 +138,7 @@ pub struct Moment {
 pub fn nowhere() -> Endpoint
     ensures { result ≡ zero_endpoint }
 {
-    Endpoint {
-        address: Address {
-            family: 0,
-            octets: [0; Address::IPV6_OCTETS],
-        },
-        port: 0,
-    }
+    Endpoint::default()
 }
 
 impl Interface {
@@ -200,11 +194,6 @@ impl Host {
     pub fn zero() -> Self
         ensures { result ≡ zero_host }
     {
-        let unused = Setting {
-            family: 0,
-            address: [0; Address::IPV6_OCTETS],
-            interval: 0,
-        };
-        Host::fresh([unused; Setting::COUNT], 0)
+        Host::fresh([Setting::default(); Setting::COUNT], 0)
     }
 }

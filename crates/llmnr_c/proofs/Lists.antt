@@ -3,12 +3,8 @@ use denote.Param.Members.{Mut}
 use Rattle.std.specs.Fn.{Called}
 use Rattle.std.specs.Array.{IsMapOf}
 use Rattle.std.proofs.lemmas.List.{ext_get_or}
-use Rattle.std.specs.Prelude.{Some, position}
-use Rattle.std.specs.List.{position_from}
-use Rattle.std.proofs.lemmas.Iterator.Adapters.{position_from-zero}
-use Prim.Native.Nat.{ℕ, ◌+◌}
-use mathlib.Core.Path.{◌≡◌, refl, sym, ap, ◌∙◌}
-use mathlib.Core.Bool.{Bool, cond}
+use Prim.Native.Nat.{ℕ}
+use mathlib.Core.Path.{◌≡◌, refl, sym, ◌∙◌}
 use mathlib.Core.List.{List, [], ◌∷◌, map}
 use native.Mathlib.Omega.{arith}
 use lib.ListN.{length, get_or, length-map, get_or-map}
@@ -39,12 +35,3 @@ pub mapped : {F A B : Type 0} (g : Mut F (A × Unit {0}) B) (h : A → B) (d : A
 mapped g h d f xs ys n l k m =
     ext_get_or (h d) ys (map h xs) (m.long ∙ sym l ∙ sym (length-map xs h))
     (λ i b. let c = m.at i d (h d) (omega (arith, b, m.long)) in k c.0 c.1 _ _ c.2 ∙ sym (get_or-map h xs i d))
-
--- the first place at which a test of what stands there passes, and the first of these that passes
-module _ {A B : Type 0} (p : B → Bool) (h : A → B) where
-  from_map : (i : ℕ) (xs : List A) → position_from (λ x. p (h x)) i xs ≡ position_from p i (map h xs)
-  from_map i [] = refl
-  from_map i (x ∷ xs) = ap (cond (p (h x)) (Some i)) (from_map (i + 1) xs)
-
-  pub position-map : (xs : List A) → position (λ x. p (h x)) xs ≡ position p (map h xs)
-  position-map xs = position_from-zero (λ x. p (h x)) xs ∙ from_map 0 xs ∙ sym (position_from-zero p (map h xs))

@@ -1,11 +1,7 @@
 // The state of a host as flat structs, and back. Any flat value stands for some state.
-ghost use Rattle.std.specs.Prelude.{◌≡◌, map, get_or};
-ghost use Rattle.name_table.specs.Bounds.{most_names};
-ghost use Rattle.host.specs.State.{off_name};
+ghost use Rattle.std.specs.Prelude.{◌≡◌};
 ghost use Rattle.host.specs.Outcomes.{to_of};
 ghost use Rattle.host.specs.SetUp.{set_up_after};
-ghost use Rattle.host.specs.Tick.{is_due as is_state_due};
-ghost use Rattle.responder.specs.Served.{due_found};
 ghost use Rattle.llmnr_c.specs.FlatHost.{state_of, flat_state, flat_names, flat_host};
 ghost use Rattle.llmnr_c.specs.FlatHost.{host_set_up, flat_served};
 
@@ -13,14 +9,14 @@ use crate::outcome::FlatOutcome;
 use host::{Host, Interface, NameState, Outcome, Timer};
 use octets::{Endpoint, Setting};
 use refusal::Refusal;
-use responder::served::{NamedState, Served};
-use responder::turn::{self, Waits};
+use responder::served::Served;
+use responder::turn::Waits;
 
 /// A name: the number of its state, and of a state with data these; all else is zero. A stopped
 /// name is due when it may be tried again. Any number that no state has counts as Off.
 // A number for the state, and fields that are zero: the C interface.
 #[repr(C)]
-#[derive(Clone, Copy, Default)]
+#[derive(Clone, Copy, PartialEq, Eq, Debug, Default)]
 pub struct FlatName {
     pub state: u8,
     pub sends: u8,
@@ -48,19 +44,19 @@ impl FlatName {
 /// The names of an interface, in the table's order.
 // This and the next three repeat the host's types as flat structs: the C interface.
 #[repr(C)]
-#[derive(Clone, Copy)]
+#[derive(Clone, Copy, PartialEq, Eq, Debug)]
 pub struct FlatNames {
     pub names: [FlatName; Interface::NAMES],
 }
 
 #[repr(C)]
-#[derive(Clone, Copy)]
+#[derive(Clone, Copy, PartialEq, Eq, Debug)]
 pub struct FlatSettings {
     pub interfaces: [Setting; Setting::COUNT],
 }
 
 #[repr(C)]
-#[derive(Clone, Copy)]
+#[derive(Clone, Copy, PartialEq, Eq, Debug)]
 pub struct FlatHost {
     pub settings: FlatSettings,
     pub interfaces: [FlatNames; Setting::COUNT],
@@ -68,7 +64,7 @@ pub struct FlatHost {
 }
 
 #[repr(C)]
-#[derive(Clone, Copy)]
+#[derive(Clone, Copy, PartialEq, Eq, Debug)]
 pub struct FlatSetUp {
     pub host: FlatHost,
     pub outcome: FlatOutcome,
@@ -78,7 +74,7 @@ pub struct FlatSetUp {
 /// new state, else all zero; the outcome; where to send; and whether a name has a new state.
 // A flag beside a name, and no Option: the C interface.
 #[repr(C)]
-#[derive(Clone, Copy)]
+#[derive(Clone, Copy, PartialEq, Eq, Debug)]
 pub struct FlatStep {
     pub clock: u64,
     pub name: FlatName,
@@ -210,34 +206,17 @@ impl From<Result<Host, Refusal>> for FlatSetUp {
     }
 }
 
-// The state of the name with a number; Off where there is none.
-pub(crate) fn state_at(names: &[FlatName; Interface::NAMES], k: usize) -> NameState
-    ensures { result ≡ get_or (map state_of names.now) k off_name }
-{
-    match names.get(k) {
-        Some(flat) => NameState::from(*flat),
-        None => NameState::Off,
-    }
-}
-
 impl Waits for FlatName {
-    ghost is_due = { λ flat time. is_state_due (state_of flat) time };
+    ghost state = { λ flat. state_of flat };
 
+    fn state(&self) -> NameState {
+        NameState::from(*self)
+    }
+
+    // Of the numbers themselves: no state is made of a name that is not due.
     fn is_due(&self, time: u64) -> bool {
         matches!(self.state, FlatName::VERIFYING | FlatName::DEFENDING) && self.due <= time
     }
-}
-
-// The first of the names that is due, and its state.
-// Beside that of the responder, whose names need no conversion: one for both would be no plainer.
-pub(crate) fn find_due(names: &[FlatName; Interface::NAMES], time: u64) -> Option<NamedState>
-    ensures { result ≡ due_found (map state_of names.now) time }
-{
-    let name = turn::first_due(names, time)?;
-    Some(NamedState {
-        name,
-        state: NameState::from(names[name]),
-    })
 }
 
 // Where the octets that were written go; nowhere where none were.

@@ -15,7 +15,7 @@ use refusal::Refusal;
 /// is zero. Any number that no phase has counts as Ended.
 // A number for the phase, and a name with a length beside it: the C interface.
 #[repr(C)]
-#[derive(Clone, Copy)]
+#[derive(Clone, Copy, PartialEq, Eq, Debug)]
 pub struct FlatLookup {
     pub settings: [Setting; Setting::COUNT],
     pub interface: usize,
@@ -41,7 +41,7 @@ impl FlatLookup {
 /// What a start comes to.
 // A flat struct beside FirstQuery: the C interface.
 #[repr(C)]
-#[derive(Clone, Copy)]
+#[derive(Clone, Copy, PartialEq, Eq, Debug)]
 pub struct FlatLookupStart {
     pub lookup: FlatLookup,
     pub outcome: FlatOutcome,
@@ -51,7 +51,7 @@ pub struct FlatLookupStart {
 /// What a later call comes to: the clock and the phase of the lookup after it.
 // A number for the phase: the C interface.
 #[repr(C)]
-#[derive(Clone, Copy)]
+#[derive(Clone, Copy, PartialEq, Eq, Debug)]
 pub struct FlatLookupStep {
     pub clock: u64,
     pub due: u64,

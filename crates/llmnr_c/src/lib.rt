@@ -42,7 +42,7 @@ use reading::{FlatRecord, FlatTable};
 use refusal::Refusal;
 use responder::heard::Call;
 use responder::served::{Served, Site};
-use responder::{heard, served};
+use responder::{heard, served, turn};
 
 // What a call on an interface looks at of a host, beside names.
 // That of the responder is given a host, this one what C lends of it: one for both is no plainer.
@@ -89,7 +89,7 @@ pub extern "C" fn llmnr_start(
         → (interface < interfaces) × (result.outcome.name < most_names) }
 {
     let site = site(&settings, clock, interface);
-    let state = flat::state_at(&names.names, name);
+    let state = turn::state_at(&names.names, name);
     let came = served::start(site, state, table, name, Moment { time, id }, out);
     FlatStep::of_call(clock, time, came)
 }
@@ -111,8 +111,8 @@ fn receive(
 {
     let site = site(settings, clock, interface);
     let heard = heard::hear(out.len(), site, call)?;
-    let state = flat::state_at(&names.names, heard.name);
-    heard::answer(heard, state, &settings.interfaces, site, call, out)
+    let state = turn::state_at(&names.names, heard.name);
+    heard::answer(Ok(heard), state, &settings.interfaces, site, call, out)
 }
 
 /// Takes a datagram that came from an address and port to an address, on an interface that has
@@ -174,7 +174,7 @@ pub extern "C" fn llmnr_tick(
         → (interface < interfaces) × (result.outcome.name < most_names) }
 {
     let site = site(&settings, clock, interface);
-    let due = flat::find_due(&names.names, time);
+    let due = turn::find_due(&names.names, time);
     let came = served::tick(site, due, table, Moment { time, id }, out);
     FlatStep::of_call(clock, time, came)
 }

@@ -12,7 +12,7 @@ use refusal::Refusal;
 /// written. What does not go with it is zero.
 // Numbers and fields that are zero, and no enum: the C interface.
 #[repr(C)]
-#[derive(Clone, Copy, Default)]
+#[derive(Clone, Copy, PartialEq, Eq, Debug, Default)]
 pub struct FlatOutcome {
     pub what: u8,
     pub refusal: u8,

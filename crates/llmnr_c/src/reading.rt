@@ -9,7 +9,7 @@ use name_table::{BadTable, Table};
 /// All zero where there is none.
 // A flag beside values, and no Option: the C interface.
 #[repr(C)]
-#[derive(Clone, Copy, Default)]
+#[derive(Clone, Copy, PartialEq, Eq, Debug, Default)]
 pub struct FlatRecord {
     pub good: bool,
     pub rtype: u16,
@@ -23,7 +23,7 @@ pub struct FlatRecord {
 /// How many names a good table has; of a bad one the offset of its first bad entry.
 // A flag beside values, and no Result: the C interface.
 #[repr(C)]
-#[derive(Clone, Copy, Default)]
+#[derive(Clone, Copy, PartialEq, Eq, Debug, Default)]
 pub struct FlatTable {
     pub good: bool,
     pub names: usize,

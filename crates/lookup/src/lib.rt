@@ -7,7 +7,7 @@ ghost use Rattle.lookup.specs.State.{ended_lookup};
 
 use host::Timer;
 use names::Name;
-use octets::{Address, Endpoint, Setting};
+use octets::{Endpoint, Setting};
 
 /// How far a lookup is: it asks, it collects the responses of several hosts that share the name, or it is over.
 #[derive(Clone, Copy, PartialEq, Eq, Debug)]
@@ -75,13 +75,8 @@ impl Lookup {
     pub fn ended() -> Self
         ensures { result ≡ ended_lookup }
     {
-        let unused = Setting {
-            family: 0,
-            address: [0; Address::IPV6_OCTETS],
-            interval: 0,
-        };
         Lookup {
-            settings: [unused; Setting::COUNT],
+            settings: [Setting::default(); Setting::COUNT],
             interface: 0,
             name: [0; Name::LONGEST],
             len: 0,

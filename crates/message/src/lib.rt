@@ -131,7 +131,7 @@ pub fn read_record(s: &[u8], at: usize) -> Option<ResourceRecord>
     if octets::runs_past(s.len(), p, ResourceRecord::FIXED) {
         return None;
     }
-    let len = octets::big(s, p + 8) as usize;
+    let len = usize::from(octets::big(s, p + 8));
     let start = p + ResourceRecord::FIXED;
     if octets::runs_past(s.len(), start, len) {
         return None;
@@ -140,7 +140,7 @@ pub fn read_record(s: &[u8], at: usize) -> Option<ResourceRecord>
         owner,
         rtype: octets::big(s, p),
         class: octets::big(s, p + 2),
-        ttl: (octets::big(s, p + 4) as u32) << 16 | octets::big(s, p + 6) as u32,
+        ttl: u32::from(octets::big(s, p + 4)) << 16 | u32::from(octets::big(s, p + 6)),
         len,
         start,
         next: start + len,
@@ -148,6 +148,7 @@ pub fn read_record(s: &[u8], at: usize) -> Option<ResourceRecord>
 }
 
 /// Walks over so many resource records from an offset on: the offset after the last, or that of the first bad one as the error.
+// The error is an offset alone: `walk_from` of specs/Records, which may not change, gives it so.
 pub fn walk(s: &[u8], at: usize, count: u16) -> Result<usize, usize>
     ensures { result ≡ walk_from count s.now at }
 {

@@ -12,7 +12,7 @@ use name_table::{RecordRead, Table, resources};
 fn reply_flags(conflict: bool, truncated: bool, tentative: bool) -> [u8; 2]
     ensures { result ≡ reply_flags conflict truncated tentative }
 {
-    let high = 0x80 | (conflict as u8) << 2 | (truncated as u8) << 1 | tentative as u8;
+    let high = 0x80 | u8::from(conflict) << 2 | u8::from(truncated) << 1 | u8::from(tentative);
     [high, 0]
 }
 

@@ -18,7 +18,8 @@ pub mod resources;
 
 /// What an entry's kind says of its body: a unique or a shared name, a record's data of so many
 /// octets, a record's target, which is a name, or the mask of the records after it.
-// No Option for a number that is no kind: `kind_of` of specs/Kinds gives every number a kind.
+// No Option for a number that is no kind: `kind_of` is public and could not fail, so it may not
+// begin to.
 #[derive(Clone, Copy, PartialEq, Eq, Debug)]
 pub enum Kind {
     Unique,
@@ -381,7 +382,7 @@ impl Table {
 
 /// A record at an offset of a table; or the mask of the records after it, and where they begin; or
 /// neither: a name stands there, or the table ends.
-// No Option: `record_at` of specs/Records tells the three apart.
+// No Option around two variants: a match with three arms would become a match in a match.
 #[derive(Clone, Copy, PartialEq, Eq, Debug)]
 pub enum RecordRead {
     Good(Record),

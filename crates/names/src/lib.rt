@@ -129,7 +129,7 @@ pub struct Walk {
 
 /// What a turn of reading meets: a label or a pointer, after which reading goes on, the zero octet,
 /// or none of these.
-// No Option: the definition `turn_at` and the theorems about it tell three answers apart.
+// No Option around two variants: a match with three arms would become a match in a match.
 #[derive(Clone, Copy, PartialEq, Eq, Debug)]
 pub enum Turn {
     More(Walk),
@@ -166,7 +166,7 @@ fn pointer_turn(s: &[u8], w: Walk) -> Turn
     if s.len() <= w.at + 1 {
         return Turn::Wrong;
     }
-    // The top two bits are set, so a subtraction clears them: a mask is no plainer.
+    // A subtraction and no mask: so says `target` of specs/RecordNameWalk, which may not change.
     let to = usize::from(octets::big(s, w.at)) - RecordName::POINTER * 256;
     if to < RecordName::LEAST_TARGET || w.run <= to || RecordName::POINTERS <= w.pointers {
         return Turn::Wrong;

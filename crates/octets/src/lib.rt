@@ -89,7 +89,7 @@ pub fn put_octets(out: &mut [u8], at: usize, src: &[u8])
 // The family is a number and no enum, and there are always 16 octets: C fills these structs, and
 // any other number means unused.
 #[repr(C)]
-#[derive(Clone, Copy, Debug)]
+#[derive(Clone, Copy, Debug, Default)]
 pub struct Address {
     pub family: u8,
     pub octets: [u8; Address::IPV6_OCTETS],
@@ -97,7 +97,7 @@ pub struct Address {
 
 /// An address and a UDP port.
 #[repr(C)]
-#[derive(Clone, Copy, PartialEq, Eq, Debug)]
+#[derive(Clone, Copy, PartialEq, Eq, Debug, Default)]
 pub struct Endpoint {
     pub address: Address,
     pub port: u16,
@@ -108,7 +108,7 @@ pub struct Endpoint {
 /// does not use.
 // The family is a number here too: the C interface.
 #[repr(C)]
-#[derive(Clone, Copy, PartialEq, Eq, Debug)]
+#[derive(Clone, Copy, PartialEq, Eq, Debug, Default)]
 pub struct Setting {
     pub family: u8,
     pub address: [u8; Address::IPV6_OCTETS],
@@ -161,7 +161,7 @@ impl Setting {
     }
 }
 
-/// Whether a family is that of a used interface.
+/// Whether a family, the number of an Address, is that of a used interface.
 pub fn is_family(family: u8) -> bool
     ensures { result ≡ is_family family }
 {
@@ -211,7 +211,7 @@ pub fn below_address(a: Address, b: Address) -> bool
     a.family == b.family && a.used() < b.used()
 }
 
-/// The group address of a family.
+/// The group address of a family, the number of an Address.
 #[tactic(auto, unfolding(crate::specs::Addresses::group_of))]
 pub fn group_of(family: u8) -> Address
     ensures { result ≡ group_of family }
@@ -232,7 +232,7 @@ pub fn is_group(a: Address) -> bool
     is_family(a.family) && same_address(a, group_of(a.family))
 }
 
-/// Where a query goes: the family's group and LLMNR's port.
+/// Where a query goes: the group of a family, the number of an Address, and LLMNR's port.
 #[tactic(auto, unfolding(crate::specs::Addresses::group_endpoint))]
 pub fn group_endpoint(family: u8) -> Endpoint
     ensures { result ≡ group_endpoint family }

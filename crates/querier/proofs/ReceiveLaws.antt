@@ -1,6 +1,6 @@
 -- What a datagram makes of a lookup that takes one on a used interface, with room and at a good time: it is refused when it is read, or when it
 -- is matched, or it is the response that the lookup waits for.
-use Rattle.std.proofs.Common.{Some, rules, ℕ, ◌≤◌, ◌≡◌, true, false, List, length, get_or, sym, le-ltb}
+use Rattle.std.proofs.Common.{Ok, rules, ℕ, ◌≡◌, true, false, List, length, get_or, sym}
 use Rattle.octets.specs.Addresses.{unused}
 use Rattle.octets.specs.declared.Setting.{Setting}
 use Rattle.octets.proofs.Tests.{split}
@@ -8,9 +8,8 @@ use Rattle.refusal.specs.Numbers.{report_of}
 use Rattle.refusal.specs.Checks.{Checks, Verdict, refused, passed, verdict, Gives, next}
 use Rattle.refusal.specs.declared.Refusal.{Refusal}
 use Rattle.refusal.proofs.Checks.{gives, by_verdict}
-use Rattle.host.specs.Bounds.{room}
 use Rattle.host.specs.declared.Timer.{Timer}
-use Rattle.host.specs.Early.{no_interface, bad_clock}
+use Rattle.host.specs.Early.{no_room, no_interface, bad_clock}
 use Rattle.checks.specs.Messages.{datagram_read, refused_so, read_so}
 use Rattle.checks.specs.declared.Datagram.{Datagram}
 use Rattle.checks.proofs.DatagramLaws.{datagram_refused, datagram_read_lem, datagram_on}
@@ -21,28 +20,30 @@ use Rattle.lookup.specs.declared.Lookup.{Lookup}
 use Rattle.lookup.specs.declared.Phase.TheVariants.{Asking, Ended}
 use Rattle.lookup.specs.declared.Phase.{Phase}
 use Rattle.lookup.proofs.Laws.{receive_by}
-use Rattle.querier.specs.Steps.{used_setting}
+use Rattle.querier.specs.Steps.{opening}
 
-used_is : (settings : List Setting) (i : ℕ) (s : Setting) → Some s ≡ used_setting settings i
-    → (no_interface i (get_or settings i unused).family ≡ false) × (get_or settings i unused ≡ s)
-used_is settings i s e =
-    split (no_interface i (get_or settings i unused).family)
+opening_is : (size : ℕ) (settings : List Setting) (i : ℕ) (s : Setting) → Ok s ≡ opening size settings i
+    → (no_room size ≡ false) × (no_interface i (get_or settings i unused).family ≡ false) × (get_or settings i unused ≡ s)
+opening_is size settings i s e =
+    split (no_room size)
     (λ p. search rules)
-    (λ p. let q = rw p at e in (p, cc))
+    (λ p. split (no_interface i (get_or settings i unused).family)
+    (λ q. search rules)
+    (λ q. let w = rw (p, q) at e in (p, q, cc)))
 
 -- a lookup that does not ask stays in its phase
 pub stays_collecting : (p : Phase) → ((sends : ℕ) (timer : Timer) → p ≡ Asking sends timer → ⊥) → collecting p ≡ p
 stays_collecting p n = search rules
 
-module _ (l : Lookup) (a : Arrival) (s : Setting) (r : room ≤ length a.out) (u : Some s ≡ used_setting l.settings l.interface)
+module _ (l : Lookup) (a : Arrival) (s : Setting) (o : Ok s ≡ opening (length a.out) l.settings l.interface)
     (t : false ≡ bad_clock l.clock a.time) where
   abbrev last : Checks
   last = match_checks (awaits l (header a) (question a) a.datagram) l.settings a.from.address (header a) (question a) a.datagram
 
   from_5 : {v : Verdict} → Gives (response_checks s.family a.from.address.family a.to a.datagram last) v → Gives (receive_checks l a) v
   from_5 g =
-      let w = used_is l.settings l.interface s u in
-      next (le-ltb _ _ r) (next w.0 (next (sym t) (rw w.1 g)))
+      let w = opening_is (length a.out) l.settings l.interface s o in
+      next w.0 (next w.1 (next (sym t) (rw w.2 g)))
 
   refuses : (why : Refusal) → Gives (response_checks s.family a.from.address.family a.to a.datagram last) (refused (report_of why))
       → refusal l a.out (report_of why) ≡ receive l a

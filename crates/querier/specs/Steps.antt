@@ -1,15 +1,20 @@
 -- What the steps of the code give.
-use Rattle.std.specs.Prelude.{ℕ, List, cond, get_or, Option, Some, None, Result, Ok, Err}
+use Rattle.std.specs.Prelude.{ℕ, List, cond, get_or, Option, Some, None, Result, Ok, Err, ok_or}
 use Rattle.octets.specs.Addresses.{unused}
 use Rattle.octets.specs.declared.Setting.{Setting}
 use Rattle.refusal.specs.Numbers.{report_of}
 use Rattle.refusal.specs.Checks.{Verdict, refused, passed}
 use Rattle.refusal.specs.declared.Refusal.{Refusal}
-use Rattle.host.specs.Early.{no_interface}
+use Rattle.refusal.specs.declared.Refusal.TheVariants.{Room, Interface}
+use Rattle.host.specs.Early.{no_room, no_interface}
 
 -- the settings of an interface, none where it is unused
 abbrev pub used_setting : List Setting → ℕ → Option Setting
 used_setting settings i = cond (no_interface i (get_or settings i unused).family) None (Some (get_or settings i unused))
+
+-- 1, 3: of a buffer of so many octets, and an interface whose settings are handed out
+abbrev pub opening : ℕ → List Setting → ℕ → Result Setting Refusal
+opening size settings i = cond (no_room size) (Err Room) (ok_or (used_setting settings i) Interface)
 
 -- what some checks that the code makes say
 abbrev pub verdict_by : Result Unit Refusal → Verdict

@@ -8,7 +8,7 @@ ghost use Rattle.lookup.specs.Outcomes.{done_after, started_after};
 ghost use Rattle.lookup.specs.Start.{start as start_of};
 ghost use Rattle.lookup.specs.Receive.{receive as receive_of};
 ghost use Rattle.lookup.specs.Tick.{tick as tick_of};
-ghost use Rattle.querier.specs.Steps.{used_setting};
+ghost use Rattle.querier.specs.Steps.{used_setting, opening};
 
 mod matching;
 mod question;
@@ -30,6 +30,21 @@ fn used_setting(settings: &[Setting; Setting::COUNT], interface: usize) -> Optio
     }
 }
 
+// The first two checks of start and receive, for a buffer of so many octets: the settings of the
+// interface.
+fn open(
+    size: usize,
+    settings: &[Setting; Setting::COUNT],
+    interface: usize,
+) -> Result<Setting, Refusal>
+    ensures { result ≡ opening size settings.now interface }
+{
+    if size < Host::ROOM {
+        return Err(Refusal::Room);
+    }
+    used_setting(settings, interface).ok_or(Refusal::Interface)
+}
+
 // A timer that is started at a time. It stands in responder too: shared, it would be a public
 // function with a `requires`, and no public function has one.
 fn timer_from(setting: Setting, time: u64) -> Timer
@@ -48,8 +63,6 @@ fn timer_from(setting: Setting, time: u64) -> Timer
 ///
 /// `Room`, `Interface`, `Clock`, `Question` or `SeveralLabels`, in this order; the buffer stays as
 /// it is.
-// The first two checks stand in receive too: six lines, of which a function makes no plainer
-// ones.
 #[tactic(auto, unfolding(lookup::specs::Start::start, refusal::specs::Checks::verdict))]
 pub fn start(
     settings: [Setting; Setting::COUNT],
@@ -62,12 +75,7 @@ pub fn start(
         asked.entry.qtype asked.entry.permission moment.time moment.id out.old }
     ensures unwritten { OnErr result (out.new ≡ out.old) }
 {
-    if out.len() < Host::ROOM {
-        return Err(Refusal::Room);
-    }
-    let Some(setting) = used_setting(&settings, interface) else {
-        return Err(Refusal::Interface);
-    };
+    let setting = open(out.len(), &settings, interface)?;
     if Host::LATEST < moment.time {
         return Err(Refusal::Clock);
     }
@@ -120,12 +128,7 @@ pub fn receive(
     ensures refused { OnErr result (lookup.new ≡ lookup.old) }
     ensures unwritten { OnErr result (out.new ≡ out.old) }
 {
-    if out.len() < Host::ROOM {
-        return Err(Refusal::Room);
-    }
-    let Some(setting) = used_setting(&lookup.settings, lookup.interface) else {
-        return Err(Refusal::Interface);
-    };
+    let setting = open(out.len(), &lookup.settings, lookup.interface)?;
     if checks::bad_clock(lookup.clock, moment.time) {
         return Err(Refusal::Clock);
     }

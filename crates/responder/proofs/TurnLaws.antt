@@ -2,7 +2,7 @@
 use Rattle.std.specs.Prelude.{Option, Some, None, position, Bool, ◌++◌}
 use Rattle.std.specs.List.{position_from}
 use Rattle.std.proofs.lemmas.Iterator.Adapters.{position_from-zero}
-use Rattle.std.proofs.Common.{rules, ◌≡◌, ℕ, zero, suc, ◌+◌, ◌<◌, ◌≤◌, cond, ltb, List, [], ◌∷◌, length, get_or, sym, refl, ◌∙◌, arith, le-ltb, lt-ltb, length-append, append_assoc, get_or-append-add}
+use Rattle.std.proofs.Common.{rules, ap, map, ◌≡◌, ℕ, zero, suc, ◌+◌, ◌<◌, ◌≤◌, cond, ltb, List, [], ◌∷◌, length, get_or, sym, refl, ◌∙◌, arith, le-ltb, lt-ltb, length-append, append_assoc, get_or-append-add}
 use Rattle.octets.proofs.Tests.{split}
 use Rattle.name_table.specs.Bounds.{most_names}
 use Rattle.host.specs.State.{off_name}
@@ -37,6 +37,16 @@ module _ (names : List NameState) (time : ℕ) where
 
   pub due_among : (n m : ℕ) → n ≤ m → due_from n names 0 time ≡ upto n (due_from m names 0 time)
   due_among n m l = let z : 0 + n ≡ n = omega arith in shorter n m 0 l ∙ rw z
+
+-- ---- the first place at which a test of what stands there passes, and the first of these that passes
+
+module _ {A B : Type 0} (p : B → Bool) (f : A → B) where
+  from_map : (i : ℕ) (xs : List A) → position_from (λ x. p (f x)) i xs ≡ position_from p i (map f xs)
+  from_map i [] = refl
+  from_map i (x ∷ xs) = ap (cond (p (f x)) (Some i)) (from_map (i + 1) xs)
+
+  pub position-map : (xs : List A) → position (λ x. p (f x)) xs ≡ position p (map f xs)
+  position-map xs = position_from-zero (λ x. p (f x)) xs ∙ from_map 0 xs ∙ sym (position_from-zero p (map f xs))
 
 -- ---- the code's search
 

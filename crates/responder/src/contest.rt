@@ -158,8 +158,13 @@ pub(crate) fn end(ending: Ending, heard: Heard, site: Site, call: Call, out: &mu
         ≡ written_at_end ending call.entry.moment.id
         (part_of call.entry.arrival.datagram.now header_octets heard.question.end) out.old }
 {
-    let name = heard.name;
-    let question = heard.question;
+    let Heard {
+        name,
+        timer,
+        header,
+        question,
+        ..
+    } = heard;
     let id = call.moment.id;
     match ending {
         Ending::Defended => {
@@ -168,7 +173,7 @@ pub(crate) fn end(ending: Ending, heard: Heard, site: Site, call: Call, out: &mu
                 id,
                 qtype: question.qtype,
                 qclass: question.class,
-                timer: heard.timer,
+                timer,
             };
             Served {
                 outcome: Outcome::Query {
@@ -182,7 +187,7 @@ pub(crate) fn end(ending: Ending, heard: Heard, site: Site, call: Call, out: &mu
         Ending::Lost => {
             let until = stopping::until(
                 call.moment.time,
-                heard.header.answers,
+                header.answers,
                 call.arrival.datagram,
                 question.end,
             );

@@ -90,15 +90,16 @@ pub fn hear(room: usize, site: Site, call: Call) -> Result<Heard, Refusal>
     })
 }
 
-/// What is made of a datagram that was heard, with the state of its name here and the settings of
-/// all interfaces: it is answered, or settles who has the name.
+/// What is made of what was heard, with the state of the name here and the settings of all
+/// interfaces: the datagram is answered, or settles who has the name. Of a datagram that was
+/// refused the state is not looked at.
 ///
 /// # Errors
 ///
-/// `NotOurs`, `Stopped` or `Notification` to a query, `Unmatched` or `Own` to a response; the
-/// buffer stays as it is.
+/// The refusal that was heard; else `NotOurs`, `Stopped` or `Notification` to a query, `Unmatched`
+/// or `Own` to a response. The buffer stays as it is.
 pub fn answer(
-    heard: Heard,
+    heard: Result<Heard, Refusal>,
     state: NameState,
     settings: &[Setting; Setting::COUNT],
     site: Site,
@@ -110,14 +111,15 @@ pub fn answer(
         Sees h site.interface site.setting site.clock
         → is_ours settings.now call.entry.arrival.from.address
         ≡ is_own h call.entry.arrival.from.address
-        → heard_by (Ok heard) ≡ hearing h a
-        → state_of h (slot_of site.interface) heard.name ≡ state
+        → heard_by heard ≡ hearing h a
+        → ((r : Heard) → heard ≡ Ok r → state_of h (slot_of site.interface) r.name ≡ state)
         → served_by result out.new h site.interface call.entry.moment.time ≡ receive_of h a }
     ensures within { (h : Host) (to : Address)
         → let a = record (arrival_of call.entry site.interface out.old) { to = to } in
-        heard_by (Ok heard) ≡ hearing h a → IsWithin result site.interface }
+        heard_by heard ≡ hearing h a → IsWithin result site.interface }
     ensures unwritten { OnErr result (out.new ≡ out.old) }
 {
+    let heard = heard?;
     let source = call.arrival.from.address;
     match contest::judge(state, heard, settings, source)? {
         Judged::Answer => Ok(Served {

@@ -2,8 +2,7 @@
 // each gives is defined in the crate host.
 #![tactic(auto)]
 
-ghost use Rattle.std.specs.Prelude.{◌≡◌, List, ℕ, OnErr, Ok, slice_index_or};
-ghost use Rattle.host.specs.State.{off_name};
+ghost use Rattle.std.specs.Prelude.{◌≡◌, List, ℕ, OnErr, Ok};
 ghost use Rattle.host.specs.Outcomes.{done_after};
 ghost use Rattle.host.specs.SetUp.{set_up, set_up_after};
 ghost use Rattle.host.specs.Start.{start as start_of};
@@ -21,7 +20,7 @@ mod stopping;
 pub mod turn;
 
 use heard::Call;
-use host::{Arrival, Host, Interface, Moment, NameState, Outcome};
+use host::{Arrival, Host, Interface, Moment, Outcome};
 use name_table::Table;
 use octets::Setting;
 use refusal::Refusal;
@@ -62,13 +61,6 @@ fn site(host: &Host, interface: usize) -> Site
     }
 }
 
-// The state of the name with a number; Off where there is none.
-fn state_at(names: &[NameState; Interface::NAMES], name: usize) -> NameState
-    ensures { result ≡ slice_index_or names.now name off_name }
-{
-    names.get(name).copied().unwrap_or(NameState::Off)
-}
-
 // The host takes what an accepted call on an interface has come to.
 fn take(host: &mut Host, interface: usize, served: Served, time: u64) -> Outcome
     requires within { IsWithin (Ok served) interface }
@@ -105,7 +97,7 @@ pub fn start(
     ensures unwritten { OnErr result (out.new ≡ out.old) }
 {
     let site = site(host, interface);
-    let state = state_at(&host.interfaces[checks::slot(interface)].names, name);
+    let state = turn::state_at(&host.interfaces[checks::slot(interface)].names, name);
     let served = served::start(site, state, table, name, moment, out)?;
     Ok(take(host, interface, served, moment.time))
 }
@@ -145,9 +137,9 @@ pub fn receive(
         moment,
     };
     let heard = heard::hear(out.len(), site, call)?;
-    let state = state_at(&host.interfaces[checks::slot(interface)].names, heard.name);
+    let state = turn::state_at(&host.interfaces[checks::slot(interface)].names, heard.name);
     let settings = Interface::settings(&host.interfaces);
-    let served = heard::answer(heard, state, &settings, site, call, out)?;
+    let served = heard::answer(Ok(heard), state, &settings, site, call, out)?;
     Ok(take(host, interface, served, moment.time))
 }
 

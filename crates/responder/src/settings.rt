@@ -23,5 +23,5 @@ fn bad_setting(setting: &Setting) -> bool
 pub(crate) fn any_bad(settings: &[Setting]) -> bool
     ensures { result ≡ list_any bad_setting settings.now }
 {
-    settings.iter().any(|setting| bad_setting(setting))
+    settings.iter().any(bad_setting)
 }

@@ -1,8 +1,9 @@
 // What a start or a tick makes of a name.
-ghost use Rattle.std.specs.Prelude.{◌≡◌, ℕ, ◌<◌, ◌≤◌, Bool, length, position, IfSome};
+ghost use Rattle.std.specs.Prelude.{◌≡◌, ◌<◌, ◌≤◌, length, position, IfSome, get_or, map};
 ghost use Rattle.host.specs.Bounds.{latest};
-ghost use Rattle.host.specs.State.{timer_from};
+ghost use Rattle.host.specs.State.{timer_from, off_name};
 ghost use Rattle.host.specs.Tick.{is_due as is_state_due};
+ghost use Rattle.host.specs.declared.NameState.{NameState};
 ghost use Rattle.responder.specs.Turn.{checked, first, again};
 ghost use Rattle.responder.specs.Served.{due_found};
 
@@ -66,15 +67,23 @@ pub(crate) fn check_start(state: NameState, time: u64) -> Result<(), Refusal>
 
 /// What may wait for a time: the state of a name, in the form that it is held in.
 pub trait Waits {
-    ghost is_due: { Self → ℕ → Bool };
+    ghost state: { Self → NameState };
+
+    /// The state that it stands for.
+    fn state(&self) -> NameState
+        ensures { result ≡ state self.now };
 
     /// Whether its timer has run out.
     fn is_due(&self, time: u64) -> bool
-        ensures { result ≡ is_due self.now time };
+        ensures { result ≡ is_state_due (state self.now) time };
 }
 
 impl Waits for NameState {
-    ghost is_due = { λ state time. is_state_due state time };
+    ghost state = { λ state. state };
+
+    fn state(&self) -> NameState {
+        *self
+    }
 
     fn is_due(&self, time: u64) -> bool {
         match self {
@@ -86,21 +95,31 @@ impl Waits for NameState {
     }
 }
 
+/// The state of the name with a number; Off where there is none.
+pub fn state_at<T: Waits>(names: &[T], name: usize) -> NameState
+    ensures { result ≡ get_or (map T.state names.now) name off_name }
+{
+    match names.get(name) {
+        Some(held) => held.state(),
+        None => NameState::Off,
+    }
+}
+
 /// The number of the first that is due.
 pub fn first_due<T: Waits>(waiting: &[T], time: u64) -> Option<usize>
-    ensures first { result ≡ position (λ one. T.is_due one time) waiting.now }
+    ensures first { result ≡ position (λ one. is_state_due (T.state one) time) waiting.now }
     ensures in_range { IfSome result (λ k. k < length waiting.now) }
 {
     waiting.iter().position(|one| one.is_due(time))
 }
 
-// The lowest-numbered of the names that is due, and its state.
-pub(crate) fn find_due(names: &[NameState; Interface::NAMES], time: u64) -> Option<NamedState>
-    ensures { result ≡ due_found names.now time }
+/// The lowest-numbered of an interface's names that is due, and its state.
+pub fn find_due<T: Waits>(names: &[T; Interface::NAMES], time: u64) -> Option<NamedState>
+    ensures { result ≡ due_found (map T.state names.now) time }
 {
     let name = first_due(names, time)?;
     Some(NamedState {
         name,
-        state: names[name],
+        state: names[name].state(),
     })
 }

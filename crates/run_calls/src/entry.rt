@@ -1,10 +1,11 @@
 // Entries of a call file: where each stands, and what its body says. All integers are
 // little-endian. An octet past the end of a body reads as 0.
-ghost use Rattle.std.specs.Prelude.{◌≡◌, not, min, ◌<◌, ◌≤◌, length, eqb, ok_or, IfOk, Some};
+ghost use Rattle.std.specs.Prelude.{ℕ, ◌+◌, ◌≡◌, not, min, ◌<◌, ◌≤◌, length, get_or, eqb};
+ghost use Rattle.std.specs.Prelude.{ok_or, IfOk, Some};
 ghost use Rattle.octets.specs.Octets.{octet_at, part_of};
 ghost use Rattle.octets.specs.Words.{little_at};
 ghost use Rattle.run_calls.specs.Entries.{slots, kind_of, is_sized, is_slot, entry_at};
-ghost use Rattle.run_calls.specs.Entries.{little32_at, little64_at, prefix_of, address_at};
+ghost use Rattle.run_calls.specs.Entries.{prefix_of, address_at};
 ghost use Rattle.run_calls.specs.Entries.{setting_at, settings_of, source_of, slot_of};
 ghost use Rattle.run_calls.specs.Pieces.{name_of, word_for};
 ghost use Rattle.run_calls.specs.declared.entry.Why.TheVariants.{Kind as KindWhy};
@@ -48,7 +49,8 @@ pub enum Why {
 
 /// What most bodies begin with: the number of an interface, a time in milliseconds, an ID, and how
 /// many octets of buffer are to be lent.
-// Time and ID stand by themselves, as lines print them: a Moment inside is no plainer.
+// Time and ID are fields of their own: `prefix_of` and `prefix_pieces` of specs, which may not
+// change, have them so.
 #[derive(Clone, Copy, PartialEq, Eq, Debug)]
 pub struct Prefix {
     pub interface: u8,
@@ -196,35 +198,15 @@ impl Entry {
     }
 }
 
-// The number of four octets at an offset.
-// Octet by octet, as little64: no trait has `from_le_bytes`, so a const parameter is no plainer.
-fn little32(s: &[u8], at: u16) -> u32
-    ensures { result ≡ little32_at s.now at }
+// As many octets as are asked for, from an offset on: zeros past the end.
+#[tactic(auto, using(crate::proofs::EntryLaws::octets_read))]
+fn octets_at<const N: usize>(s: &[u8], at: usize) -> [u8; N]
+    ensures { (i : ℕ) → i < N → get_or result i 0 ≡ octet_at s.now (at + i) }
 {
-    let at = usize::from(at);
-    u32::from_le_bytes([
-        octets::octet(s, at),
-        octets::octet(s, at + 1),
-        octets::octet(s, at + 2),
-        octets::octet(s, at + 3),
-    ])
-}
-
-// The number of eight octets at an offset.
-fn little64(s: &[u8], at: u16) -> u64
-    ensures { result ≡ little64_at s.now at }
-{
-    let at = usize::from(at);
-    u64::from_le_bytes([
-        octets::octet(s, at),
-        octets::octet(s, at + 1),
-        octets::octet(s, at + 2),
-        octets::octet(s, at + 3),
-        octets::octet(s, at + 4),
-        octets::octet(s, at + 5),
-        octets::octet(s, at + 6),
-        octets::octet(s, at + 7),
-    ])
+    let rest = octets::part(s, at, s.len());
+    let mut octets = [0; N];
+    octets::put_octets(&mut octets, 0, octets::part(rest, 0, rest.len().min(N)));
+    octets
 }
 
 impl Prefix {
@@ -234,9 +216,9 @@ impl Prefix {
     {
         Prefix {
             interface: octets::octet(body, 0),
-            time: little64(body, 1),
+            time: u64::from_le_bytes(octets_at(body, 1)),
             id: octets::little(body, 9),
-            room: little32(body, 11),
+            room: u32::from_le_bytes(octets_at(body, 11)),
         }
     }
 
@@ -340,6 +322,8 @@ pub fn arrival(s: &[u8]) -> Arrival<'_>
 /// The slot that an entry names. A number that is none counts as 0, and no entry that was read has
 /// one.
 // No Option: `slot_of` of specs/Entries, which may not change, gives 0 too.
+// It and `checks::slot` differ in what they read and in the count: one for both would be handed the
+// number and the count, and is no plainer.
 pub fn slot(body: &[u8]) -> usize
     ensures value { result ≡ slot_of body.now }
     ensures upper_bound { result < slots }

@@ -1,4 +1,4 @@
-use Rattle.std.proofs.Common.{refl}
+use Rattle.std.proofs.Common.{◌≡◌, refl}
 use Rattle.std.proofs.lemmas.Result.{err_from_is_err_and}
 use Rattle.responder.proofs.ReceiveLaws.{unheard}
 use Rattle.llmnr_c.specs.FlatHost.{seen}
@@ -17,7 +17,7 @@ returns-clause-gives c =
     let e = c.site-site.ensures in
     let q = c.in_ok-heard.ensures _ c.args.call.moment.id c.args.out.now (sees c.args.settings.now c.args.clock c.args.names.now _ _ e) refl in
     let g = c.answer.ensures.gives _ c.args.call.arrival.to (sees c.args.settings.now c.args.clock c.args.names.now _ _ e) (own_seen c.args.settings.now c.args.clock c.args.names.now _) q
-    (rw e (state_seen c.args.settings.now c.args.clock c.args.names.now c.args.interface _ _ c.state_at-state.ensures)) in
+    (λ r u. let z : c.in_ok-heard.heard ≡ r = cc in rw (← z, e) (state_seen c.args.settings.now c.args.clock c.args.names.now c.args.interface _ _ c.state_at-state.ensures)) in
     rw e at g
 
 pub returns-clause-within : goal.returns-clause-within

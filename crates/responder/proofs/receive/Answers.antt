@@ -1,5 +1,6 @@
-use Rattle.std.proofs.Common.{◌∙◌, refl}
+use Rattle.std.proofs.Common.{◌≡◌, ◌∙◌, refl}
 use Rattle.std.proofs.lemmas.Result.{err_from_is_err_and}
+use Rattle.std.proofs.lemmas.List.{map-id}
 use Rattle.responder.proofs.ContestLaws.{own_settings}
 use Rattle.responder.proofs.ServedLaws.{sees}
 use Rattle.responder.proofs.ReceiveLaws.{unheard}
@@ -19,7 +20,7 @@ returns-in_err-served-clause-done c =
     let q = c.in_ok-heard.ensures c.args.host.now c.args.moment.id c.args.out.now (sees _ _ _ e) refl in
     let g = c.in_err-served.ensures.gives c.args.host.now c.args.arrival.to (sees _ _ _ e)
     (rw c.settings-settings.ensures (own_settings c.args.host.now.interfaces c.args.arrival.from.address)) q
-    (rw (c.state_at-state.ensures, c.slot.ensures.value, e)) in
+    (λ r u. let z : c.in_ok-heard.heard ≡ r = cc in rw (← z, c.state_at-state.ensures, map-id, c.slot.ensures.value, e)) in
     rw (p.1, p.2) (rw e at g)
 
 pub take-requires : goal.take-requires
@@ -35,5 +36,5 @@ returns-clause-done c =
     let q = c.in_ok-heard.ensures c.args.host.now c.args.moment.id c.args.out.now (sees _ _ _ e) refl in
     let g = c.in_ok-served.ensures.gives c.args.host.now c.args.arrival.to (sees _ _ _ e)
     (rw c.settings-settings.ensures (own_settings c.args.host.now.interfaces c.args.arrival.from.address)) q
-    (rw (c.state_at-state.ensures, c.slot.ensures.value, e)) in
+    (λ r u. let z : c.in_ok-heard.heard ≡ r = cc in rw (← z, c.state_at-state.ensures, map-id, c.slot.ensures.value, e)) in
     c.take.ensures c.answer.new.out ∙ rw e at g

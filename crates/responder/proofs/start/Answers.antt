@@ -1,9 +1,10 @@
 use Rattle.std.proofs.Common.{◌∙◌}
+use Rattle.std.proofs.lemmas.List.{map-id}
 use Rattle.responder.proofs.ServedLaws.{sees}
 use Rattle.responder.proofs.start.Goals as goal
 
 pub returns-clause-done : goal.returns-clause-done
 returns-clause-done c =
     let e = c.site-site.ensures in
-    let g = c.in_ok-served.ensures.gives c.args.host.now (sees _ _ _ e) (rw (c.state_at-state.ensures, c.slot.ensures.value, e)) in
+    let g = c.in_ok-served.ensures.gives c.args.host.now (sees _ _ _ e) (rw (c.state_at-state.ensures, map-id, c.slot.ensures.value, e)) in
     c.take.ensures c.start.new.out ∙ rw e at g
