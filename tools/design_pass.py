@@ -526,10 +526,13 @@ def unrolled(files):
     return out
 
 
-@kind("3f", "assignments written x = x + n, where x += n would do")
-def assigned(files):
-    return [Place(f.file, f.body + m.start(), "%s: %s" % (f.name, m[0]), f) for f in all_functions(files)
-            for m in re.finditer(r"(?<![\w.])([\w.]+) = \1 [-+*/] [^;,]*[;,]", f.code)]
+def found(pattern):
+    """The places where the code of a function has a pattern."""
+    return lambda files: [Place(f.file, f.body + m.start(), "%s: %s" % (f.name, m[0]), f) for f in all_functions(files)
+                          for m in re.finditer(pattern, f.code)]
+
+
+kind("3f", "assignments written x = x + n, where x += n would do")(found(r"(?<![\w.])([\w.]+) = \1 [-+*/] [^;,]*[;,]"))
 
 
 # ---- 4: equality, order, copies, conversions, printing ------------------------------------------------------------------------
@@ -584,10 +587,7 @@ def copied(files):
     return out
 
 
-@kind("4f", "fields taken out into a variable before they are used (let f = x.f;)")
-def taken_out(files):
-    return [Place(f.file, f.body + m.start(), "%s: %s" % (f.name, m[0]), f) for f in all_functions(files)
-            for m in re.finditer(r"let (?:mut )?\w+ = \w+(?:\.\w+)+;", f.code)]
+kind("4f", "fields taken out into a variable before they are used (let f = x.f;)")(found(r"let (?:mut )?\w+ = \w+(?:\.\w+)+;"))
 
 
 @kind("4g", "fields written as name: name, where the name alone would do")
