@@ -2,10 +2,14 @@
 // octets and records; or the refusal of a bad table.
 #![tactic(auto)]
 
+use arrayvec::ArrayVec;
 use name_table::{Kind, Table, resources};
 use refusal::Refusal;
 use std::io;
 use std::io::Read;
+
+// One octet more than the longest table has, to tell a longer one.
+const MOST: usize = Table::OCTETS + 1;
 
 // The word for a name's kind, with the space after it.
 // No Display: only two of the six kinds are ever printed, so it would be no plainer.
@@ -40,11 +44,9 @@ fn print(rt: &impl Print, octets: &[u8]) -> io::Result<()> {
     }
 }
 
-// As main of run_calls: four lines, which a crate for both programs makes no plainer.
+// An ArrayVec: a table is short, and with no heap no memory can run out.
 fn main(rt: HostRuntime) -> io::Result<()> {
-    // One octet more than the longest table has, to tell a longer one.
-    let most = Table::OCTETS as u64 + 1;
-    let mut octets = Vec::new(rt.alloc());
-    rt.reader().take(most).read_to_end(&mut octets)?;
+    let mut octets: ArrayVec<u8, MOST> = ArrayVec::new();
+    io::copy(&mut rt.reader().take(MOST as u64), &mut octets)?;
     print(&rt, &octets)
 }

@@ -2,10 +2,11 @@
 // whether TC is set.
 #![tactic(auto)]
 
+use arrayvec::ArrayVec;
 use message::{Asked, ReplyHead, ResourceRecord, replies};
 use name_table::{Record, Table};
-use std::alloc::{AllocError, Global};
 use std::io;
+use std::io::Write;
 
 // The entry of the name, and those of an AAAA and of an A record.
 const NAME: [u8; 12] = *b"\x0c\x00\x01\x00\x06scale3\x00";
@@ -25,29 +26,31 @@ struct Case {
 }
 
 impl Case {
-    fn table(self, alloc: Global) -> Result<Vec<u8>, AllocError> {
-        let mut table = NAME.to_vec(alloc)?;
+    // An ArrayVec: the table is short, and with no heap no memory can run out.
+    fn table(self) -> io::Result<ArrayVec<u8, 512>> {
+        let mut table = ArrayVec::new();
+        table.write_all(&NAME)?;
         for _ in 0..self.aaaa {
-            table.extend_from_slice(&AAAA)?;
+            table.write_all(&AAAA)?;
         }
-        table.extend_from_slice(&[5, 0, 6, 0, self.mask])?;
+        table.write_all(&[5, 0, 6, 0, self.mask])?;
         for _ in 0..self.a {
-            table.extend_from_slice(&A)?;
+            table.write_all(&A)?;
         }
         Ok(table)
     }
 
-    fn question(self, alloc: Global) -> Result<Vec<u8>, AllocError> {
-        let mut question = b"\x06scale3\x00".to_vec(alloc)?;
-        question.extend_from_slice(&self.qtype.to_be_bytes())?;
-        question.extend_from_slice(&ResourceRecord::IN.to_be_bytes())?;
-        Ok(question)
+    fn question(self) -> [u8; 12] {
+        let mut question = *b"\x06scale3\x00\x00\x00\x00\x00";
+        octets::put_big(&mut question, 8, self.qtype);
+        octets::put_big(&mut question, 10, ResourceRecord::IN);
+        question
     }
 
     // Asks on interface 0, and prints what the reply has.
-    fn print(self, rt: &impl Print, alloc: Global) -> io::Result<()> {
-        let table = self.table(alloc)?;
-        let question = self.question(alloc)?;
+    fn print(self, rt: &impl Print) -> io::Result<()> {
+        let table = self.table()?;
+        let question = self.question();
         let head = ReplyHead {
             id: 0x1234,
             conflict: false,
@@ -97,7 +100,7 @@ fn main(rt: HostRuntime) -> io::Result<()> {
             mask,
             qtype,
         };
-        case.print(&rt, rt.alloc())?;
+        case.print(&rt)?;
     }
     Ok(())
 }

@@ -1,6 +1,8 @@
 -- Laws of the lines of a file.
-use Rattle.std.proofs.Common.{ℕ, suc, zero, ◌+◌, ◌-◌, ◌<◌, ◌≤◌, ◌≡◌, refl, sym, ap, ◌∙◌, List, [], ◌∷◌, ◌++◌, arith, length, take, drop, Ok, Err}
+use Rattle.std.proofs.Common.{ℕ, suc, zero, ◌+◌, ◌-◌, ◌<◌, ◌≤◌, ◌≡◌, refl, sym, ap, ◌∙◌, List, [], ◌∷◌, ◌++◌, arith, length, take, drop, Ok, Err, Option, Result, None, Some}
 use Rattle.std.proofs.lemmas.List.{append-nil, append_assoc}
+use Rattle.std.specs.Io.KnownBytes.{Appends, append_known}
+use Rattle.std.specs.Result.{OnOk}
 use Rattle.std.specs.List.{concat}
 use Rattle.std.proofs.lemmas.Grind.{common_steps}
 use Rattle.std.proofs.lemmas.List.Folds.{concat-append}
@@ -12,6 +14,33 @@ use Rattle.run_calls.specs.Run.{body_of, lines_from, most_room}
 use Rattle.run_calls.specs.declared.entry.Entry.{Entry}
 use Rattle.run_calls.specs.declared.entry.Why.{Why}
 use Rattle.run_calls.specs.declared.lookups.Lookups.{Lookups}
+
+-- A writer, where what it holds is known, and after it a text: before anything is written,
+pub told_none : (a : Option (List ℕ)) (text : List ℕ) → text ≡ [] → Appends a (append_known a text) []
+told_none None text e = tt
+told_none (Some xs) text e = ap (λ (zs : List ℕ). xs ++ zs) e
+
+-- with more in the text,
+pub told_more : (a b : Option (List ℕ)) (text done more new : List ℕ)
+    → Appends a (append_known b text) done → new ≡ text ++ more
+    → Appends a (append_known b new) (done ++ more)
+told_more None b text done more new p e = tt
+told_more (Some xs) None text done more new p e = absurd p
+told_more (Some xs) (Some ys) text done more new p e =
+    ap (λ (zs : List ℕ). ys ++ zs) e ∙ sym (append_assoc ys text more)
+    ∙ ap (λ (zs : List ℕ). zs ++ more) p ∙ append_assoc xs done more
+
+-- and once the text is written, if it is
+pub told_all : {X E : Type 0} (r : Result X E) (a b c : Option (List ℕ))
+    (text bytes done whole : List ℕ)
+    → Appends a (append_known b text) done → bytes ≡ text → done ≡ whole
+    → OnOk r (Appends b c bytes) → OnOk r (Appends a c whole)
+told_all (Err e) a b c text bytes done whole p s t q = tt
+told_all (Ok x) None b c text bytes done whole p s t q = tt
+told_all (Ok x) (Some xs) None c text bytes done whole p s t q = absurd p
+told_all (Ok x) (Some xs) (Some ys) None text bytes done whole p s t q = absurd q
+told_all (Ok x) (Some xs) (Some ys) (Some zs) text bytes done whole p s t q =
+    q ∙ ap (λ (ws : List ℕ). ys ++ ws) s ∙ p ∙ ap (λ (ws : List ℕ). xs ++ ws) t
 
 -- the octets after an entry's head
 pub body_is : (front s : List ℕ) (e : Entry) → front ≡ take e.len s

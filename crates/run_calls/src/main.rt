@@ -1,7 +1,8 @@
 // Reads a call file from standard input, makes its calls, and prints a line for each entry.
 #![tactic(auto)]
 
-ghost use Rattle.std.specs.Prelude.{◌≡◌, string_bytes, IfOk};
+ghost use Rattle.std.specs.Prelude.{◌≡◌, ◌≤◌, length, string_bytes, IfOk, OnOk};
+ghost use Rattle.std.specs.Io.KnownBytes.{Appends, Keeps, append_known};
 ghost use Rattle.std.specs.List.{concat};
 ghost use Rattle.run_calls.specs.Run.{lines_of, printed};
 
@@ -12,16 +13,35 @@ mod state;
 
 use entry::{Entry, Why};
 use state::State;
-use std::alloc::{AllocError, Global};
+use std::alloc::Global;
 use std::io;
-use std::io::Read;
+use std::io::{Read, Write};
 
-// The lines of a file, whose entries are taken in order.
-fn run(alloc: Global, file: &[u8]) -> Result<String, AllocError>
-    ensures { IfOk result (λ text. string_bytes text ≡ concat (lines_of file.now)) }
+// Octets of lines from which on they are written out, and octets that the longest line leaves free
+// after that.
+const SPILL: usize = 65536;
+
+const LINE: usize = 2048;
+
+// Writes the lines out once they are many, so that a run keeps few of them.
+fn spill<W: Write>(out: &mut W, text: &mut String) -> io::Result<()>
+    ensures { OnOk result (Keeps (append_known (W.contents out.old) (string_bytes text.old))
+        (append_known (W.contents out.new) (string_bytes text.new))) }
+{
+    if SPILL <= text.len() {
+        out.write_all(text.as_bytes())?;
+        text.clear();
+    }
+    Ok(())
+}
+
+// Writes the lines of a file, whose entries are taken in order.
+fn run<W: Write>(alloc: Global, file: &[u8], out: &mut W) -> io::Result<()>
+    ensures { OnOk result
+        (Appends (W.contents out.old) (W.contents out.new) (concat (lines_of file.now))) }
 {
     let mut state = State::fresh();
-    let mut text = String::new(alloc);
+    let mut text = String::with_capacity(alloc, SPILL + LINE)?;
     let mut rest = file;
     let mut n = 0;
     // A while loop: each entry says where the next one begins, and one that cannot be read ends the
@@ -31,35 +51,51 @@ fn run(alloc: Global, file: &[u8]) -> Result<String, AllocError>
             Ok(entry) => entry,
             Err(why) => {
                 line::put_end(&mut text, file.len() - rest.len(), why)?;
-                return Ok(text);
+                return out.write_all(text.as_bytes());
             }
         };
         let (taken, others) = rest.split_at(entry.len);
         state.take(entry.kind, &taken[Entry::HEAD..], n, &mut text)?;
+        spill(out, &mut text)?;
         rest = others;
         n += 1;
     }
-    Ok(text)
+    out.write_all(text.as_bytes())
 }
 
-// What is printed for a file; one that is too long is not read.
-fn lines(alloc: Global, file: &[u8]) -> Result<String, AllocError>
-    ensures { IfOk result (λ text. string_bytes text ≡ concat (printed file.now)) }
+// Writes what is printed for a file; one that is too long is not read.
+fn lines<W: Write>(alloc: Global, file: &[u8], out: &mut W) -> io::Result<()>
+    ensures { OnOk result
+        (Appends (W.contents out.old) (W.contents out.new) (concat (printed file.now))) }
 {
     if Entry::FILE < file.len() {
         let mut text = String::new(alloc);
         line::put_end(&mut text, Entry::FILE, Why::Long)?;
-        return Ok(text);
+        return out.write_all(text.as_bytes());
     }
-    run(alloc, file)
+    run(alloc, file, out)
 }
 
-// As main of print_table: four lines, which a crate for both programs makes no plainer.
+// Reads until the buffer is full or the input ends, and gives the number of octets read.
+// A loop: `read_to_end` asks for less at a time, so that of a socket that keeps packets the rest of
+// one is lost, and what is printed may not change.
+fn read_full(input: &mut impl Read, buffer: &mut [u8]) -> io::Result<usize>
+    ensures { IfOk result (λ n. n ≤ length buffer.new) }
+{
+    let mut done = 0;
+    while done < buffer.len() {
+        let n = input.read(&mut buffer[done..])?;
+        if n == 0 {
+            break;
+        }
+        done += n;
+    }
+    Ok(done)
+}
+
 fn main(rt: HostRuntime) -> io::Result<()> {
     // One octet more than the longest file has, to tell a longer one.
-    let most = Entry::FILE as u64 + 1;
-    let mut file = Vec::new(rt.alloc());
-    rt.reader().take(most).read_to_end(&mut file)?;
-    let text = lines(rt.alloc(), &file)?;
-    rt.write_all(text.as_bytes())
+    let mut file = vec![in rt.alloc(); 0; Entry::FILE + 1]?;
+    let n = read_full(&mut rt.reader(), &mut file)?;
+    lines(rt.alloc(), &file[..n], &mut io::writer(&rt))
 }
