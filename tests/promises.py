@@ -160,7 +160,7 @@ class Check:
         code, function = call.split("::")
         meaning, file, name = re.split("[/ ]", definition)
         source = (CRATES / code / "src" / "lib.rt").read_text(encoding="utf-8")
-        clause = r"(?:done )?\{\s*(?:done_after (?:host|lookup)\.new result out\.new|set_up_after result|started_after result out\.new)\s*≡ (\w+) "
+        clause = r"(?:done )?\{\s*(?:done_after (?:host|lookup)\.new result out\.new|set_up_after result|started_after result out\.new|begun_after lookup\.new result out\.new)\s*≡ (\w+) "
         contract = re.search(rf"pub fn {function}\((?:(?!\npub fn ).)*?\n    ensures {clause}", source, re.S)
         used = re.search(rf"ghost use Rattle\.{meaning}\.specs\.{file}\.{{[^}}]*\b{name}(?: as (\w+))?[,}}]", source)
         if not contract or not used or contract.group(1) != (used.group(1) or name):

@@ -8,9 +8,8 @@ use Rattle.lookup.specs.declared.Phase.{Phase}
 use Rattle.lookup.specs.declared.Phase.TheVariants.{Asking, Collecting, Ended}
 use Rattle.lookup.specs.declared.Lookup.{Lookup}
 use Rattle.octets.specs.declared.Endpoint.{Endpoint}
-use Rattle.lookup.specs.State.{ended_lookup}
 use Rattle.lookup.specs.Outcomes.{Done, CallResult, query}
-use Rattle.lookup.specs.declared.FirstQuery.{FirstQuery}
+use Rattle.querier.specs.declared.Sent.{Sent}
 use Rattle.llmnr_c.specs.Numbers.{phase_ended, phase_asking, phase_collecting}
 use Rattle.llmnr_c.specs.Outcomes.{flat_refusal, flat_lookup_outcome}
 use Rattle.llmnr_c.specs.declared.flat_lookup.FlatLookup.{FlatLookup}
@@ -85,11 +84,10 @@ start_of d =
       octets = d.octets;
     }
 
--- what the code's start gives: where it is refused, a lookup that has ended
-abbrev pub flat_start : Result FirstQuery Refusal → FlatLookupStart
-flat_start (Ok s) = record { lookup = flat_lookup s.lookup; outcome = flat_lookup_outcome (query s.len); to = s.to }
-flat_start (Err why) =
-    record { lookup = flat_lookup ended_lookup; outcome = flat_refusal (report_of why); to = nowhere }
+-- what the code's start gives, of the lookup that it leaves
+abbrev pub flat_start : Lookup → Result Sent Refusal → FlatLookupStart
+flat_start l (Ok s) = record { lookup = flat_lookup l; outcome = flat_lookup_outcome (query s.len); to = s.to }
+flat_start l (Err why) = record { lookup = flat_lookup l; outcome = flat_refusal (report_of why); to = nowhere }
 
 -- a later call: the clock and the phase of the lookup, since what it asks, and where, never changes
 pub record StepDone : Type 0 where

@@ -6,9 +6,10 @@ ghost use Rattle.llmnr_c.specs.FlatLookup.{flat_lookup, flat_start, flat_step};
 
 use crate::outcome::FlatOutcome;
 use host::Timer;
-use lookup::{FirstQuery, Lookup, Outcome, Phase};
+use lookup::{Lookup, Outcome, Phase};
 use names::Name;
 use octets::{Endpoint, Setting};
+use querier::Sent;
 use refusal::Refusal;
 
 /// A lookup: the number of its phase, and of a phase with data these; what the phase does not use
@@ -137,22 +138,18 @@ impl From<Lookup> for FlatLookup {
     }
 }
 
-impl From<Result<FirstQuery, Refusal>> for FlatLookupStart {
-    ghost from_gives = { λ result start. start ≡ flat_start result };
-
-    fn from(came: Result<FirstQuery, Refusal>) -> FlatLookupStart {
-        match came {
-            Ok(FirstQuery { lookup, len, to }) => FlatLookupStart {
-                lookup: FlatLookup::from(lookup),
-                outcome: FlatOutcome::from(Outcome::Query { len, to }),
-                to,
-            },
-            Err(refusal) => FlatLookupStart {
-                lookup: FlatLookup::from(Lookup::ended()),
-                outcome: FlatOutcome::from(refusal),
-                to: host::nowhere(),
-            },
-        }
+// What a start has made of a lookup, and what it comes to.
+pub(crate) fn start(lookup: &Lookup, came: Result<Sent, Refusal>) -> FlatLookupStart
+    ensures { result ≡ flat_start lookup.now came }
+{
+    let (outcome, to) = match came {
+        Ok(Sent { len, to }) => (FlatOutcome::from(Outcome::Query { len, to }), to),
+        Err(refusal) => (FlatOutcome::from(refusal), host::nowhere()),
+    };
+    FlatLookupStart {
+        lookup: FlatLookup::from(*lookup),
+        outcome,
+        to,
     }
 }
 

@@ -200,7 +200,16 @@ pub extern "C" fn llmnr_lookup_start(
         permission,
     };
     let moment = Moment { time, id };
-    querier::start(settings.interfaces, interface, asked, moment, out).into()
+    let mut lookup = Lookup::ended();
+    let came = querier::begin(
+        &mut lookup,
+        &settings.interfaces,
+        interface,
+        asked,
+        moment,
+        out,
+    );
+    flat_lookup::start(&lookup, came)
 }
 
 /// Takes a datagram that came from an address and port to an address.

@@ -7,6 +7,10 @@ use Rattle.refusal.specs.Checks.{Verdict, refused, passed}
 use Rattle.refusal.specs.declared.Refusal.{Refusal}
 use Rattle.refusal.specs.declared.Refusal.TheVariants.{Room, Interface}
 use Rattle.host.specs.Early.{no_room, no_interface}
+use Rattle.lookup.specs.State.{ended_lookup}
+use Rattle.lookup.specs.Outcomes.{Done, refusal, query}
+use Rattle.lookup.specs.declared.Lookup.{Lookup}
+use Rattle.querier.specs.declared.Sent.{Sent}
 
 -- the settings of an interface, none where it is unused
 abbrev pub used_setting : List Setting → ℕ → Option Setting
@@ -20,3 +24,9 @@ opening size settings i = cond (no_room size) (Err Room) (ok_or (used_setting se
 abbrev pub verdict_by : Result Unit Refusal → Verdict
 verdict_by (Ok _) = passed
 verdict_by (Err why) = refused (report_of why)
+
+-- what a start in place gives, and the lookup and the buffer that it leaves, are those of a definition: where it is refused, of a lookup that
+-- has ended
+abbrev pub begun_after : Lookup → Result Sent Refusal → List ℕ → Done
+begun_after l (Ok s) out = record { lookup = l; result = query s.len; to = s.to; octets = out }
+begun_after l (Err why) out = refusal ended_lookup out (report_of why)

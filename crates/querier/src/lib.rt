@@ -1,4 +1,4 @@
-// The calls of a lookup: start, receive and tick. What each gives is defined in the crate lookup.
+// The calls of a lookup: start, also in place, receive and tick. What each gives is defined in the crate lookup.
 #![tactic(auto)]
 
 ghost use Rattle.std.specs.Prelude.{◌≡◌, ◌≤◌, OnErr};
@@ -8,7 +8,7 @@ ghost use Rattle.lookup.specs.Outcomes.{done_after, started_after};
 ghost use Rattle.lookup.specs.Start.{start as start_of};
 ghost use Rattle.lookup.specs.Receive.{receive as receive_of};
 ghost use Rattle.lookup.specs.Tick.{tick as tick_of};
-ghost use Rattle.querier.specs.Steps.{used_setting, opening};
+ghost use Rattle.querier.specs.Steps.{used_setting, opening, begun_after};
 
 mod matching;
 mod question;
@@ -17,8 +17,15 @@ mod several;
 use host::{Arrival, Host, Moment, Timer};
 use lookup::{Asked, FirstQuery, Lookup, Outcome, Phase};
 use names::Name;
-use octets::Setting;
+use octets::{Endpoint, Setting};
 use refusal::Refusal;
+
+/// How many octets of the buffer a query has, and where it is to be sent.
+#[derive(Clone, Copy, PartialEq, Eq, Debug)]
+pub struct Sent {
+    pub len: usize,
+    pub to: Endpoint,
+}
 
 // The settings of an interface; none where there is no such interface, or it is unused.
 fn used_setting(settings: &[Setting; Setting::COUNT], interface: usize) -> Option<Setting>
@@ -56,6 +63,51 @@ fn timer_from(setting: Setting, time: u64) -> Timer
     }
 }
 
+/// Starts a lookup in place, on an interface of a host with these settings: its query goes out for
+/// the first time. Nothing of the lookup that stood there before is left.
+///
+/// # Errors
+///
+/// `Room`, `Interface`, `Clock`, `Question` or `SeveralLabels`, in this order; the lookup and the
+/// buffer stay as they are.
+#[tactic(auto, unfolding(lookup::specs::Start::start, refusal::specs::Checks::verdict))]
+pub fn begin(
+    lookup: &mut Lookup,
+    settings: &[Setting; Setting::COUNT],
+    interface: usize,
+    asked: Asked,
+    moment: Moment,
+    out: &mut [u8],
+) -> Result<Sent, Refusal>
+    ensures done { begun_after lookup.new result out.new ≡ start_of settings.now interface
+        asked.entry.name.now asked.entry.qtype asked.entry.permission moment.time moment.id out.old }
+    ensures refused { OnErr result (lookup.new ≡ lookup.old) }
+    ensures unwritten { OnErr result (out.new ≡ out.old) }
+{
+    let setting = open(out.len(), settings, interface)?;
+    if Host::LATEST < moment.time {
+        return Err(Refusal::Clock);
+    }
+    question::check(asked)?;
+    lookup.settings = *settings;
+    lookup.interface = interface;
+    lookup.name = [0; Name::LONGEST];
+    octets::put_octets(&mut lookup.name, 0, asked.name);
+    lookup.len = asked.name.len();
+    lookup.qtype = asked.qtype;
+    lookup.id = moment.id;
+    lookup.clock = moment.time;
+    lookup.phase = Phase::Asking {
+        sends: 1,
+        timer: timer_from(setting, moment.time),
+    };
+    let len = question::write(out, moment.id, asked.name, asked.qtype);
+    Ok(Sent {
+        len,
+        to: octets::group_endpoint(setting.family),
+    })
+}
+
 /// Starts a lookup on an interface of a host with these settings: its query goes out for the first
 /// time.
 ///
@@ -63,7 +115,6 @@ fn timer_from(setting: Setting, time: u64) -> Timer
 ///
 /// `Room`, `Interface`, `Clock`, `Question` or `SeveralLabels`, in this order; the buffer stays as
 /// it is.
-#[tactic(auto, unfolding(lookup::specs::Start::start, refusal::specs::Checks::verdict))]
 pub fn start(
     settings: [Setting; Setting::COUNT],
     interface: usize,
@@ -75,32 +126,9 @@ pub fn start(
         asked.entry.qtype asked.entry.permission moment.time moment.id out.old }
     ensures unwritten { OnErr result (out.new ≡ out.old) }
 {
-    let setting = open(out.len(), &settings, interface)?;
-    if Host::LATEST < moment.time {
-        return Err(Refusal::Clock);
-    }
-    question::check(asked)?;
-    let mut name = [0; Name::LONGEST];
-    octets::put_octets(&mut name, 0, asked.name);
-    let lookup = Lookup {
-        settings,
-        interface,
-        name,
-        len: asked.name.len(),
-        qtype: asked.qtype,
-        id: moment.id,
-        clock: moment.time,
-        phase: Phase::Asking {
-            sends: 1,
-            timer: timer_from(setting, moment.time),
-        },
-    };
-    let len = question::write(out, moment.id, asked.name, asked.qtype);
-    Ok(FirstQuery {
-        lookup,
-        len,
-        to: octets::group_endpoint(setting.family),
-    })
+    let mut lookup = Lookup::ended();
+    let Sent { len, to } = begin(&mut lookup, &settings, interface, asked, moment, out)?;
+    Ok(FirstQuery { lookup, len, to })
 }
 
 /// Takes a datagram: the response that the lookup waits for.
