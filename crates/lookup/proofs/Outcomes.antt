@@ -31,6 +31,24 @@ back (Ok NoSuchName) = refl
 pub outcome_one : (r s : Result Outcome Refusal) → told r ≡ told s → sent_to r ≡ sent_to s → r ≡ s
 outcome_one r s e f = sym (back r) ∙ ap (λ (x : CallResult). outcome_of x (sent_to r)) e ∙ ap (outcome_of (told s)) f ∙ back s
 
+-- the same, but a query that is sent goes to the endpoint t; what sends nothing stays as it is
+abbrev pub sent_elsewhere : Endpoint → Result Outcome Refusal → Result Outcome Refusal
+sent_elsewhere t (Ok (Query len to)) = Ok (Query len t)
+sent_elsewhere t r = r
+
+elsewhere : (t : Endpoint) (r : Result Outcome Refusal) → outcome_of (told r) t ≡ sent_elsewhere t r
+elsewhere t (Err why) = ap Err (refusal_back why)
+elsewhere t (Ok Quiet) = refl
+elsewhere t (Ok (Query len to)) = refl
+elsewhere t (Ok (Part at answers)) = refl
+elsewhere t (Ok (Found at answers)) = refl
+elsewhere t (Ok Collected) = refl
+elsewhere t (Ok NoSuchName) = refl
+
+-- what is told alone determines the result, but for where it sends
+pub told_one : (r s : Result Outcome Refusal) → told r ≡ told s → r ≡ sent_elsewhere (sent_to r) s
+told_one r s e = sym (back r) ∙ ap (λ (x : CallResult). outcome_of x (sent_to r)) e ∙ elsewhere (sent_to r) s
+
 -- what a start gives that comes to a result
 abbrev start_of : CallResult → Lookup → Endpoint → Result FirstQuery Refusal
 start_of (refused t) l to = Err (refusal_of t)

@@ -157,7 +157,7 @@ module _ {s : List ℕ} {t : Table} {records at : ℕ} {u : List ℕ} (r : Readi
   step_by_lem : (f : Option Form) → form_at u (t.names) records ≡ f
       → step u (state_at s t records at) ≡ step_by f (kind_at u) (body_at u) (length_at u) (state_at s t records at)
   unfolding step
-  step_by_lem f q = rw (names_length s t r.padded, q)
+  step_by_lem f q = rw (names_length t r.padded.few r.padded.size s, q)
 
   stops : 0 < length u → step u (state_at s t records at) ≡ broken → check_table s ≡ bad at
   stops h q = r.so_far ∙ ap checked_by (turn_off (length u) u (state_at s t records at) h q)
@@ -247,7 +247,7 @@ module _ {s : List ℕ} {t : Table} {records at : ℕ} {u : List ℕ} (r : Readi
     on_name q i =
         let v : Table = added t kind (at + entry_head) (at + length_at u) in
         let h : Held = record { kind = kind; start = at + entry_head; end = at + length_at u; octets = body } in
-        let a : names_of s v ≡ names_of s t ++ (h ∷ []) = names_added s t kind (at + entry_head) (at + length_at u) r.padded (room q) ∙ rw stands in
+        let a : names_of s v ≡ names_of s t ++ (h ∷ []) = names_added s t kind (at + entry_head) (at + length_at u) r.padded.size (room q) ∙ rw stands in
         let b : with_name (state_at s t records at) kind body (length_at u) ≡ state_at s v 0 (at + length_at u) = rw a in
         subst (λ (i : ℕ). Reading s (added t kind (at + entry_head) i) 0 (length s - length others) others) ends_at
         (goes_on v 0 (step_name q _ refl ∙ is_new (find_name (names_of s t) body) (with_name (state_at s t records at) kind body (length_at u)) i ∙ ap on b) (still_padded t kind (at + entry_head) (at + length_at u) r.padded (room q)) (omega arith))
@@ -311,5 +311,5 @@ module _ (s : List ℕ) where
   read_few = go (comes_to s)
     where
       go : {c : Checked} → Ends s c → length (names_in c) ≤ most_names
-      go (all t h) = omega (arith, names_length s t h, h.few)
+      go (all t h) = omega (arith, names_length t h.few h.size s, h.few)
       go (stop at) = omega arith

@@ -30,28 +30,28 @@ pub record IsPadded (t : Table) : Type 0 where
   pub size : length t.places ≡ most_names
   pub past : drop t.names t.places ≡ replicate (most_names - t.names) (record { kind = 0; start = 0; end = 0 })
 
--- such a table has so many names as it says
-module _ (t : Table) (p : IsPadded t) where
+-- a table with room for all its names has so many as it says
+module _ (t : Table) (few : t.names ≤ most_names) (size : length t.places ≡ most_names) where
   counted_so : count_of t ≡ t.names
-  counted_so = omega (arith, p.few)
+  counted_so = omega (arith, few)
 
   places_so : places_of t ≡ take t.names t.places
   places_so = ap (λ (n : ℕ). take n t.places) counted_so
 
   places_length : length (places_of t) ≡ t.names
-  places_length = ap length places_so ∙ length-take-le t.names t.places (omega (arith, p.few, p.size))
+  places_length = ap length places_so ∙ length-take-le t.names t.places (omega (arith, few, size))
+
+  pub names_length : (s : List ℕ) → length (names_of s t) ≡ t.names
+  names_length s = length-map (places_of t) (held_of s) ∙ places_length
 
 module _ (s : List ℕ) (t : Table) (p : IsPadded t) where
-  pub names_length : length (names_of s t) ≡ t.names
-  names_length = length-map (places_of t) (held_of s) ∙ places_length t p
-
   pub table_back : table_of (names_of s t) ≡ t
   table_back =
       let q : padded (map place_of (names_of s t)) ≡ t.places
-      = ap padded (places_back s (places_of t) ∙ places_so t p)
+      = ap padded (places_back s (places_of t) ∙ places_so t p.few p.size)
       ∙ ap (λ (n : ℕ). take t.names t.places ++ replicate (most_names - n) (record { kind = 0; start = 0; end = 0 })) (length-take-le t.names t.places (omega (arith, p.few, p.size)))
       ∙ ap (λ (ps : List Place). take t.names t.places ++ ps) (sym p.past) ∙ take-append-drop t.names t.places in
-      rw (q, names_length)
+      rw (q, names_length t p.few p.size s)
 
 -- one name more
 abbrev pub added : Table → ℕ → ℕ → ℕ → Table
@@ -72,12 +72,12 @@ still_padded t kind start end p l =
           ∙ ap (drop 1) p.past ∙ drop-replicate 1 (most_names - n) none ∙ ap (λ (k : ℕ). replicate k none) (omega arith);
     }
 
-pub names_added : (s : List ℕ) (t : Table) (kind start end : ℕ) → IsPadded t → t.names < most_names
+pub names_added : (s : List ℕ) (t : Table) (kind start end : ℕ) → length t.places ≡ most_names → t.names < most_names
     → names_of s (added t kind start end) ≡ names_of s t ++ (record { kind = kind; start = start; end = end; octets = part_of s start end } ∷ [])
-names_added s t kind start end p l =
+names_added s t kind start end size l =
     let x : Place = record { kind = kind; start = start; end = end } in
     let n : ℕ = t.names in
     let e : places_of (added t kind start end) ≡ places_of t ++ (x ∷ [])
-    = places_so (added t kind start end) (still_padded t kind start end p l)
-    ∙ take_more_set t.places n x (omega (arith, l, p.size)) ∙ ap (λ (ps : List Place). ps ++ (x ∷ [])) (sym (places_so t p)) in
+    = places_so (added t kind start end) (omega (arith, l)) (length-set t.places n x ∙ size)
+    ∙ take_more_set t.places n x (omega (arith, l, size)) ∙ ap (λ (ps : List Place). ps ++ (x ∷ [])) (sym (places_so t (omega (arith, l)) size)) in
     ap (held_all s) e ∙ map-append (held_of s) (places_of t) (x ∷ [])

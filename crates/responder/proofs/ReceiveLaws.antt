@@ -122,10 +122,10 @@ module _ (h : Host) (a : Arrival) where
       go passed p w = named p (found a) refl w
 
   module _ (k : ℕ) (passes_all : verdict (checks_heard h a pass) ≡ passed) (found_is : found a ≡ Some k) where
-    interface_there : a.interface < interfaces
+    pub interface_there : a.interface < interfaces
     interface_there = (well passes_all).interface
 
-    name_there : k < most_names
+    pub name_there : k < most_names
     name_there = omega (arith, read_few a.table, found_below (names_in (check_table a.table)) _ k found_is)
 
     same : slot_of a.interface ≡ a.interface

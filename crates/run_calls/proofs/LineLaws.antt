@@ -52,7 +52,7 @@ hex_lower (c ∷ s) h =
     rw (low (c / 16) (omega arith), low (c % 16) (omega arith), hex_lower s (λ i. h (suc i)))
 
 -- a refusal for any reason but a bad table has no offset
-no_offset : (r : Refusal) → ((at : ℕ) → r ≡ Table at → ⊥)
+pub no_offset : (r : Refusal) → ((at : ℕ) → r ≡ Table at → ⊥)
     → refusal_pieces r ≡ field (codes " refused no=") (number_of r)
 no_offset Room h = refl
 no_offset (Table at) h = absurd (h at refl)

@@ -162,10 +162,11 @@ impl Entry {
     /// Slots, each of which holds a lookup.
     pub const SLOTS: usize = 4;
 
-    // Octets of a prefix, and of an address.
-    const PREFIX: usize = 15;
+    /// Octets of a prefix.
+    pub const PREFIX: usize = 15;
 
-    const ADDRESS: usize = 17;
+    /// Octets of an address.
+    pub const ADDRESS: usize = 17;
 
     /// Reads the entry at the start of what is left of a file.
     ///

@@ -15,7 +15,7 @@ use refusal::Refusal;
 use std::alloc::AllocError;
 
 /// The settings, and the lookup of each slot.
-#[derive(Drop)]
+#[derive(Clone, Copy)]
 pub struct Lookups {
     pub settings: [Setting; Setting::COUNT],
     pub slots: [Lookup; Entry::SLOTS],

@@ -34,6 +34,26 @@ back (Ok (Stopped k)) = refl
 pub outcome_one : (r s : Result Outcome Refusal) → told r ≡ told s → sent_to r ≡ sent_to s → r ≡ s
 outcome_one r s e f = sym (back r) ∙ ap (λ (x : CallResult). outcome_of x (sent_to r)) e ∙ ap (outcome_of (told s)) f ∙ back s
 
+-- the same, but what is sent goes to the endpoint t; what sends nothing stays as it is
+abbrev pub sent_elsewhere : Endpoint → Result Outcome Refusal → Result Outcome Refusal
+sent_elsewhere t (Ok (Query k len to)) = Ok (Query k len t)
+sent_elsewhere t (Ok (Reply len to)) = Ok (Reply len t)
+sent_elsewhere t r = r
+
+elsewhere : (t : Endpoint) (r : Result Outcome Refusal) → outcome_of (told r) t ≡ sent_elsewhere t r
+elsewhere t (Err why) = ap Err (refusal_back why)
+elsewhere t (Ok Quiet) = refl
+elsewhere t (Ok (Kept k)) = refl
+elsewhere t (Ok (Query k len to)) = refl
+elsewhere t (Ok (Reply len to)) = refl
+elsewhere t (Ok (Unique k)) = refl
+elsewhere t (Ok (Shared k)) = refl
+elsewhere t (Ok (Stopped k)) = refl
+
+-- what is told alone determines the result, but for where it sends
+pub told_one : (r s : Result Outcome Refusal) → told r ≡ told s → r ≡ sent_elsewhere (sent_to r) s
+told_one r s e = sym (back r) ∙ ap (λ (x : CallResult). outcome_of x (sent_to r)) e ∙ elsewhere (sent_to r) s
+
 -- what a set-up gives that comes to a result
 abbrev set_up_of : CallResult → Host → Result Host Refusal
 set_up_of (refused t) h = Err (refusal_of t)
