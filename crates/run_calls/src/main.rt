@@ -17,8 +17,7 @@ use std::alloc::Global;
 use std::io;
 use std::io::{Read, Write};
 
-// Octets of lines from which on they are written out, and octets that the longest line leaves free
-// after that.
+// Octets of lines from which on they are written out, and room for the longest line after that.
 const SPILL: usize = 65536;
 
 const LINE: usize = 2048;
