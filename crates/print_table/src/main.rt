@@ -43,7 +43,7 @@ fn print(rt: &impl Print, octets: &[u8]) -> io::Result<()> {
 }
 
 // Reads until the buffer is full or the input ends, and gives the number of octets read.
-// As that of run_calls, and for its reason; a crate for both programs makes no plainer.
+// As that of run_calls, and for its reason; a crate for both programs is no plainer.
 fn read_full(input: &mut impl Read, buffer: &mut [u8]) -> io::Result<usize>
     ensures { IfOk result (λ n. n ≤ length buffer.new) }
 {
@@ -58,8 +58,8 @@ fn read_full(input: &mut impl Read, buffer: &mut [u8]) -> io::Result<usize>
     Ok(done)
 }
 
-// An array: the table is short, and with no heap and no copy neither memory nor stack runs out
-// sooner than it may; a Vec is no plainer.
+// An array: a table is short. A Vec needs a heap, and std's copy into a vector of fixed capacity
+// more stack; this way no memory runs out, and either is no plainer.
 fn main(rt: HostRuntime) -> io::Result<()> {
     // One octet more than the longest table has, to tell a longer one.
     let mut octets = [0; Table::OCTETS + 1];

@@ -1,5 +1,6 @@
 -- Laws of the lines of a file.
 use Rattle.std.proofs.Common.{ℕ, suc, zero, ◌+◌, ◌-◌, ◌<◌, ◌≤◌, ◌≡◌, refl, sym, ap, ◌∙◌, List, [], ◌∷◌, ◌++◌, arith, length, take, drop, Ok, Err, Option, Result, None, Some}
+use Rattle.std.proofs.KnownBytes.{Appends-trans, Keeps-refl, append_known-grown}
 use Rattle.std.proofs.lemmas.List.{append-nil, append_assoc}
 use Rattle.std.specs.Io.KnownBytes.{Appends, append_known}
 use Rattle.std.specs.Result.{OnOk}
@@ -24,11 +25,10 @@ told_none (Some xs) text e = ap (λ (zs : List ℕ). xs ++ zs) e
 pub told_more : (a b : Option (List ℕ)) (text done more new : List ℕ)
     → Appends a (append_known b text) done → new ≡ text ++ more
     → Appends a (append_known b new) (done ++ more)
-told_more None b text done more new p e = tt
-told_more (Some xs) None text done more new p e = absurd p
-told_more (Some xs) (Some ys) text done more new p e =
-    ap (λ (zs : List ℕ). ys ++ zs) e ∙ sym (append_assoc ys text more)
-    ∙ ap (λ (zs : List ℕ). zs ++ more) p ∙ append_assoc xs done more
+told_more a b text done more new p e =
+    let known : Option (List ℕ) = append_known b text in
+    Appends-trans a known (append_known b new) done more p
+    (append_known-grown known b text new more (Keeps-refl known) e)
 
 -- and once the text is written, if it is
 pub told_all : {X E : Type 0} (r : Result X E) (a b c : Option (List ℕ))
